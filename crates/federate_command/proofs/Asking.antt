@@ -1,6 +1,6 @@
 -- The end of the command says the rest: what the file holds is answered by itself, and where nothing stands in the way it succeeds.
-use Rattle.std.proofs.Common.{ℕ, ◌≡◌, ◌⊎◌, inl, inr, List, length, Option, Some, Result, Ok, Err, refl, subst, arith}
-use Rattle.std.specs.List.{AllByRecursion, AllZip}
+use Rattle.std.proofs.Common.{ℕ, ◌≡◌, ◌⊎◌, inl, inr, List, Some, Result, Ok, Err, refl, subst}
+use Rattle.std.specs.List.{AllByRecursion}
 use Rattle.tpf_base.specs.Addresses.{Address}
 use Rattle.tpf_base.specs.Causes.{Rose}
 use Rattle.tpf_base.specs.Links.{WireState}
@@ -11,8 +11,6 @@ use Rattle.group_faults.specs.declared.fault.GroupWhy.{GroupWhy}
 use Rattle.tpf_client.specs.declared.options.Options.{Options}
 use Rattle.tpf_client.specs.declared.options.Report.{Report}
 use Rattle.tpf_client.specs.declared.fault.ClientFault.{ClientFault}
-use Rattle.tpf_client.specs.Offers.{Publisher, servers_offer}
-use Rattle.tpf_client.specs.Plans.{ChangesVersion}
 use Rattle.data_files.specs.declared.fault.QueryFileFault.{QueryFileFault}
 use Rattle.data_files.specs.declared.fault.QueryFileFault.TheVariants as query_faults
 use Rattle.data_files.specs.declared.query.Grammar.TheVariants as grammars
@@ -25,32 +23,14 @@ use Rattle.query_command.specs.declared.fault.AnswerFault.{AnswerFault}
 use Rattle.query_command.specs.declared.fault.AnswerFault.TheVariants as faults
 use Rattle.query_command.specs.Files.{FailsByFile, KeepsOutput}
 use Rattle.query_command.specs.Limits.{QueriesAreAskable}
-use Rattle.query_command.proofs.Complete.{still_memory}
-use Rattle.federated_query.specs.Limits.{ServesStart}
-use Rattle.federated_query.proofs.Fitting.{is-still}
+use Rattle.query_command.proofs.Reading as reading
 use Rattle.federate_command.specs.Commands.{AsksTogether, EndsTogether, DecidesPatterns, FitsServers, SucceedsTogether, ServersAsked}
-
--- ---- data that stand still
-
-no_change : (publishers : List Publisher) (q : QueryData) (starts : List Address) → AllZip ServesStart starts publishers → (first other : Option ℕ) → ChangesVersion (servers_offer publishers q starts) first other → ⊥
-no_change publishers q starts servers first other h =
-    let only : length h.server.history ≡ 1 = is-still starts publishers servers h.address h.server h.stands in
-    let one = h.versions.is_one in
-    let two = h.versions.is_two in
-    let low = one.low in
-    let high = one.high in
-    let low' = two.low in
-    let high' = two.high in
-    h.versions.differ (omega (arith, only, low, high, low', high'))
 
 -- ---- what the file holds
 
 module _ (files : Files) (name : List ℕ) where
-  same_reading : (q r : QueryData) → reads q ≡ reads r → q ≡ r
-  same_reading q r e = cc
-
   same_query : (q r : QueryData) → HoldsQuery files name q → HoldsQuery files name r → q ≡ r
-  same_query q r h k = same_reading q r (one_query grammars.Patterns files name (reads q) (reads r) h k)
+  same_query q r h k = reading.same_query q r (one_query grammars.Patterns files name (reads q) (reads r) h k)
 
   apart : (q : QueryData) (at : ℕ) (why : GroupWhy) → reads q ≡ refused at why → ⊥
   apart q at why e = cc
@@ -100,19 +80,18 @@ module _ (shelf shelf' : ShelfState) (name : List ℕ) (allows : List ℕ → �
   -- the query was not read
   pub none_asked : (fault : QueryFileFault) → EndsTogether shelf shelf' name allows starts options wire wire' out out' (Err (faults.Query fault)) → ReadsNamed name shelf shelf' (FailsByFile {A = Report} (Err (faults.Query fault))) → KeepsOutput out out' (Err (faults.Query fault))
       → ServersAsked shelf shelf' allows wire wire' out out' name starts options (Err (faults.Query fault))
-  none_asked fault e = asked (Err (faults.Query fault)) e (λ short quiet fine files is q holds publishers fits. read_memory shelf shelf' name files is quiet q holds fault e.0)
+  none_asked fault e = asked (Err (faults.Query fault)) e (λ short quiet fine files is q holds publishers versions fits. read_memory shelf shelf' name files is quiet q holds fault e.0)
 
   pub servers_asked : (report : Report) → AsksTogether shelf.told name allows starts options (Ok report) wire wire' out out' → ReadsNamed name shelf shelf' (FailsByFile (Ok report)) → KeepsOutput out out' (Ok report)
       → ServersAsked shelf shelf' allows wire wire' out out' name starts options (Ok report)
-  servers_asked report e = asked (Ok report) e (λ short quiet fine files is q holds publishers fits. tt)
+  servers_asked report e = asked (Ok report) e (λ short quiet fine files is q holds publishers versions fits. tt)
 
   -- the client gave up: its clause says that it would not have, where nothing stands in the way
   failed : QueriesAreAskable → (fault : ClientFault) → (e : AsksTogether shelf.told name allows starts options (Err fault) wire wire' out out') → AllByRecursion IsValidPattern e.q.patterns → SucceedsTogether shelf shelf' name allows starts options wire wire' out out' (Err (faults.Client fault))
-  failed askable fault e valid short quiet fine = λ files is q holds publishers fits.
-      let own : FitsServers allows e.q starts options publishers wire wire' = subst (λ (x : QueryData). FitsServers allows x starts options publishers wire wire') (same_query files name q e.q holds (e.is_read.tells files is)) fits in
-      still_memory (servers_offer publishers e.q starts) (no_change publishers e.q starts own.servers) fault
-      (e.call.limits publishers own.honest own.lively own.rise own.rises
-      (record { starts_are = short; servers = own.servers; patterns = askable files name e.q (e.is_read.tells files is) valid; small = own.small; within = own.within }) fine)
+  failed askable fault e valid short quiet fine = λ files is q holds publishers versions fits.
+      let own : FitsServers allows e.q starts options publishers versions wire wire' = subst (λ (x : QueryData). FitsServers allows x starts options publishers versions wire wire') (same_query files name q e.q holds (e.is_read.tells files is)) fits in
+      e.call.still_limits publishers versions own.honest own.answers own.lively own.rise own.rises
+      (record { starts_are = short; servers = own.servers; patterns = askable files name e.q (e.is_read.tells files is) valid; small = own.small; within = own.within }) fine
 
   pub servers_failed : QueriesAreAskable → (fault : ClientFault) → (e : AsksTogether shelf.told name allows starts options (Err fault) wire wire' out out') → AllByRecursion IsValidPattern e.q.patterns
       → ReadsNamed name shelf shelf' (FailsByFile {A = Report} (Err (faults.Client fault))) → KeepsOutput out out' (Err (faults.Client fault))

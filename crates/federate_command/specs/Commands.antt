@@ -1,6 +1,6 @@
 -- What a query of a file over a wire to several servers came to.
 use Rattle.std.specs.Prelude.{ℕ, ◌≡◌, ◌⊎◌, ◌+◌, ◌≤◌, true, List, length, None, Option, Result, Ok, Err, IfOk, IfErr, OnErr}
-use Rattle.std.specs.List.{AllByRecursion, AllZip}
+use Rattle.std.specs.List.{AllByRecursion}
 use Rattle.tpf_base.specs.Addresses.{Address}
 use Rattle.tpf_base.specs.Causes.{Rose}
 use Rattle.tpf_base.specs.Links.{WireState}
@@ -12,11 +12,11 @@ use Rattle.tpf_client.specs.declared.options.Report.{Report}
 use Rattle.tpf_client.specs.declared.fault.ClientFault.{ClientFault}
 use Rattle.tpf_client.specs.Calls.{WritesResult, WritesPrefix, most_over}
 use Rattle.tpf_client.specs.Ended.{WritesOverEnds}
-use Rattle.tpf_client.specs.Still.{SucceedsStillOver}
+use Rattle.tpf_client.specs.Still.{AnswerStill, SucceedsStillOver}
 use Rattle.tpf_client.specs.Ends.{AreHonestServers, servers_ends}
 use Rattle.tpf_client.specs.Honest.{WritesSolutions, WritesSolutionsFront}
-use Rattle.tpf_client.specs.Offers.{Publisher, servers_offer}
-use Rattle.tpf_client.specs.Plans.{AtEach, IsSmallByAll, RisesFew, PlanFits, MayStill}
+use Rattle.tpf_client.specs.Offers.{Publisher, servers_offer, joint_addresses}
+use Rattle.tpf_client.specs.Plans.{AtChosen, RisesFew, PlanFits, MayStill}
 use Rattle.tpf_client.specs.Sinks.{LeavesSink}
 use Rattle.group_faults.specs.declared.fault.GroupWhy.{GroupWhy}
 use Rattle.data_files.specs.declared.fault.QueryFileFault.TheVariants as query_faults
@@ -29,10 +29,10 @@ use Rattle.query_command.specs.declared.fault.AnswerFault.{AnswerFault}
 use Rattle.query_command.specs.declared.fault.AnswerFault.TheVariants as faults
 use Rattle.query_command.specs.Answers.{IsWanting, OfQuery}
 use Rattle.query_command.specs.Files.{FailsByFile, KeepsOutput}
-use Rattle.federated_query.specs.Limits.{IsShortStart, ServesStart, first_addresses, ServersFit}
+use Rattle.federated_query.specs.Limits.{IsShortStart, ServersFit, ServeOver, IsSmallAt, SucceedsWithin}
 use Rattle.federated_query.specs.Servers.{joint_sources, OverServers}
 
--- What a query over several servers promised of its wire and its output: the text of some rows was written, or a front of one; over a wire that is honest for several servers, of the solutions over the union of what they hold; what was done on the wire and why, by their plan, and what was written, of one list of events (`ended`); all that is said of a call that failed is said of one version of each server, those of the start pages where they were read; where the plan fits and the faults are few a fault is want of memory, or the data of a server changed, and it fits where the servers are within the limits; no version is told; and the output did not fail unless that is the fault.
+-- What a query over several servers promised of its wire and its output: the text of some rows was written, or a front of one; over a wire that is honest for several servers, of the solutions over the union of what they hold; what was done on the wire and why, by their plan, and what was written, of one list of events (`ended`); all that is said of a call that failed is said of one version of each server, those of the start pages where they were read; where the plan fits and the faults are few a fault is want of memory, or the data of a server changed, and it fits where the servers are within the limits; it is want of memory where each server answers over one version, whose plan fits, or which is within the limits; no version is told; and the output did not fail unless that is the fault.
 pub record Federates (allows : List ℕ → ℕ → List ℕ → List ℕ → Type 0) (q : QueryData) (starts : List Address) (options : Options) (result : Result Report ClientFault) (old new : WireState) (out out' : SinkState) : Type 0 where
   pub whole : IfOk result (λ report. WritesResult q report.rows out.taken out'.taken)
   pub front : OnErr result (WritesPrefix q out.taken out'.taken)
@@ -42,6 +42,7 @@ pub record Federates (allows : List ℕ → ℕ → List ℕ → List ℕ → Ty
   pub complete : OverServers allows starts old (λ publishers. old.nature.lively ≡ true → (rise : ℕ) → RisesFew options rise old new → PlanFits (servers_offer publishers q starts) options rise → (Rose out.faults out'.faults → ⊥) → IfErr result (MayStill (servers_offer publishers q starts)))
   pub limits : OverServers allows starts old (λ publishers. old.nature.lively ≡ true → (rise : ℕ) → RisesFew options rise old new → ServersFit publishers q starts options rise → (Rose out.faults out'.faults → ⊥) → IfErr result (MayStill (servers_offer publishers q starts)))
   pub still : SucceedsStillOver allows options q starts old new (Rose out.faults out'.faults) result
+  pub still_limits : SucceedsWithin allows options q starts old new (Rose out.faults out'.faults) result
   pub version : IfOk result (λ report. report.version ≡ None)
   pub sink : LeavesSink out out' result
 
@@ -80,21 +81,22 @@ pub record DecidesPatterns (shelf shelf' : ShelfState) (name : List ℕ) (result
 
 -- ---- completeness
 
--- Nothing stands in the way of a query over several servers: the other ends answer, at each start, as a server of these data does, which do not change and are within the limits of what is served; each serves its start; never 1000 waits follow one another; the faults rise at most as often as a request may be asked again; each body of the plan over all servers is within the limit; and the addresses and the rise are within the budget.
-pub record FitsServers (allows : List ℕ → ℕ → List ℕ → List ℕ → Type 0) (q : QueryData) (starts : List Address) (options : Options) (publishers : List Publisher) (old new : WireState) : Type 0 where
+-- Nothing stands in the way of a query over several servers: the other ends answer, at each start, as a server of these data does, over one version of its own, which is within the limits of what is served and serves its start; never 1000 waits follow one another; the faults rise at most as often as a request may be asked again; each body of the plan over these versions is within the limit; and the addresses and the rise are within the budget.
+pub record FitsServers (allows : List ℕ → ℕ → List ℕ → List ℕ → Type 0) (q : QueryData) (starts : List Address) (options : Options) (publishers : List Publisher) (versions : List ℕ) (old new : WireState) : Type 0 where
   pub honest : AreHonestServers allows starts publishers old
-  pub servers : AllZip ServesStart starts publishers
+  pub answers : AnswerStill allows starts publishers versions
+  pub servers : ServeOver starts publishers versions
   pub lively : old.nature.lively ≡ true
   pub rise : ℕ
   pub rises : RisesFew options rise old new
-  pub small : AllByRecursion (AtEach (servers_offer publishers q starts) (IsSmallByAll options.max_body)) (first_addresses publishers q starts)
-  pub within : length (first_addresses publishers q starts) + rise ≤ options.budget
+  pub small : AllByRecursion (AtChosen (servers_offer publishers q starts) versions (IsSmallAt options.max_body)) (joint_addresses publishers q starts versions)
+  pub within : length (joint_addresses publishers q starts versions) + rise ≤ options.budget
 
 -- where the texts of the starts are short, nothing stands in the way, and shelf and output did not fail, memory is wanting or the call succeeded
 abbrev pub SucceedsTogether : ShelfState → ShelfState → List ℕ → (List ℕ → ℕ → List ℕ → List ℕ → Type 0) → List Address → Options → WireState → WireState → SinkState → SinkState → Result Report AnswerFault → Type 0
 SucceedsTogether shelf shelf' name allows starts options wire wire' out out' result =
     AllByRecursion IsShortStart starts → ¬ (Rose shelf.faults shelf'.faults) → ¬ (Rose out.faults out'.faults)
-    → OfQuery shelf.told name (λ q. (publishers : List Publisher) → FitsServers allows q starts options publishers wire wire' → IfErr result IsWanting)
+    → OfQuery shelf.told name (λ q. (publishers : List Publisher) (versions : List ℕ) → FitsServers allows q starts options publishers versions wire wire' → IfErr result IsWanting)
 
 -- ---- the command
 

@@ -24,10 +24,10 @@ use tpf_client::{Options, Report};
 /// (`output`).
 ///
 /// The call over the wire promises all that `federate` of `federated_query` does (`ends`). Where the texts of the starts have at
-/// most 65536 bytes, the wire's other ends answer as servers do, each of one version of data within the limits of what is served
-/// and at a start of its own, which it answers, the bodies and the number of the requests are within the options, the faults of the
-/// wire rise at most as often as a request may be sent again, and shelf and output do not fail, it succeeds unless memory runs out
-/// (`complete`).
+/// most 65536 bytes, the wire's other ends answer as servers do, each over one version of its data, which is within the limits of
+/// what is served and answers the start (a server may have read its data again before the call), the bodies and the number of the
+/// requests are within the options, the faults of the wire rise at most as often as a request may be sent again, and shelf and
+/// output do not fail, it succeeds unless memory runs out (`complete`).
 pub fn query_servers<R: Wait, F: Shelf, W: Dial, K: Sink>(
     rt: &R,
     alloc: Global,

@@ -13,8 +13,7 @@ use Rattle.plan_laws.specs.Fitting.{PlansAreRead, StartsAreRead}
 use Rattle.tpf_client.specs.declared.options.Options.{Options}
 use Rattle.tpf_client.specs.declared.fault.ClientFault.{ClientFault}
 use Rattle.tpf_client.specs.declared.fault.ClientFault.TheVariants as clients
-use Rattle.tpf_client.specs.Offers.{Publisher, Offer}
-use Rattle.tpf_client.specs.Plans.{MayStill, ChangesVersion}
+use Rattle.tpf_client.specs.Offers.{Publisher}
 use Rattle.data_files.proofs.Outcomes.{one_query}
 use Rattle.query_command.specs.Limits.{QueriesAreAskable}
 use Rattle.tpf_base.specs.Causes.{Rose}
@@ -83,17 +82,6 @@ module _ (shelf shelf' : ShelfState) (persons : ℕ) (name : List ℕ) (inside :
       is_memory 0 usual_options triples (local_config usual_options 100) (offer_of usual_options triples (local_config usual_options 100) q) (λ address server e. e) (plan_of usual_options triples (local_config usual_options 100) q) fault within cause.0 (ends files is triples q serves holds)
 
 -- ---- over a wire to a server elsewhere
-
-pub still_memory : (offer : Offer) → ((first other : Option ℕ) → ChangesVersion offer first other → ⊥) → (fault : ClientFault) → MayStill offer fault → fault ≡ clients.OutOfMemory
-still_memory offer one clients.Exchange h = absurd h
-still_memory offer one clients.Stalled h = absurd h
-still_memory offer one (clients.Cut received) h = absurd h
-still_memory offer one (clients.Reply fault received) h = absurd h
-still_memory offer one (clients.Page fault body) h = absurd h
-still_memory offer one (clients.Changed first other) h = absurd (one first other h)
-still_memory offer one (clients.Budget n) h = absurd h
-still_memory offer one clients.Sink h = absurd h
-still_memory offer one clients.OutOfMemory h = refl
 
 module _ (told : Option Files) (name : List ℕ) (allows : List ℕ → ℕ → List ℕ → List ℕ → Type 0) (start : Address) (options : Options) (old new : WireState) (out out' : ℕ) (taken taken' : Option (List ℕ)) where
   -- a call that failed over a wire, and the valid patterns of its query

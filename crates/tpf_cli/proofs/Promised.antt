@@ -114,9 +114,9 @@ module _ (a : Around) where
   server_succeeds name client (Err fault) url typed (Plain h) quiet fine = λ files is q holds p version fits. wanting_done fault (h.complete typed quiet fine files is q holds p version fits)
 
   servers_succeed : (several : Federated) (answer : Result Report AnswerFault) → AllByRecursion IsTyped several.urls → ServersAsked a.shelf a.shelf' a.allows a.wire a.wire' a.out a.out' several.query several.urls (options_of several.client) answer → ¬ (Rose a.shelf.faults a.shelf'.faults) → ¬ (Rose a.out.faults a.out'.faults)
-      → OfQuery a.shelf.told several.query (λ q. (publishers : List Publisher) → FitsServers a.allows q several.urls (options_of several.client) publishers a.wire a.wire' → IsDone (answer_status answer))
-  servers_succeed several (Ok report) typed h quiet fine = λ files is q holds publishers fits. inl refl
-  servers_succeed several (Err fault) typed h quiet fine = λ files is q holds publishers fits. wanting_done fault (h.complete typed quiet fine files is q holds publishers fits)
+      → OfQuery a.shelf.told several.query (λ q. (publishers : List Publisher) (versions : List ℕ) → FitsServers a.allows q several.urls (options_of several.client) publishers versions a.wire a.wire' → IsDone (answer_status answer))
+  servers_succeed several (Ok report) typed h quiet fine = λ files is q holds publishers versions fits. inl refl
+  servers_succeed several (Err fault) typed h quiet fine = λ files is q holds publishers versions fits. wanting_done fault (h.complete typed quiet fine files is q holds publishers versions fits)
 
   service_succeeds : (name : List ℕ) (choice : Choice) (config : Config) (stop_after : Option ℕ) (result : Result ℕ ServiceFault) → ServesFile a.shelf a.shelf' a.wire a.wire' a.out a.out' name choice config stop_after result
       → ¬ (Rose a.shelf.faults a.shelf'.faults) → ¬ (Rose a.out.faults a.out'.faults) → ¬ (Rose a.wire.door.faults a.wire'.door.faults)
@@ -219,7 +219,7 @@ module _ (a : Around) where
   memory_succeeds None = tt
   memory_succeeds (Some (local name query_name choice page client seed fail_every)) = λ quiet fine files is triples q serves holds within. inr refl
   memory_succeeds (Some (query url query_name client)) = λ quiet fine files is q holds triples config fits. inr refl
-  memory_succeeds (Some (federate several)) = λ quiet fine files is q holds publishers fits. inr refl
+  memory_succeeds (Some (federate several)) = λ quiet fine files is q holds publishers versions fits. inr refl
   memory_succeeds (Some (serve name base choice page stop_after reload rows)) = λ quiet fine calm files is triples serves. inr refl
   memory_succeeds (Some (make count None)) = λ fine. inr refl
   memory_succeeds (Some (make count (Some name))) = λ quiet fine files is triples q serves holds within. inr refl

@@ -165,7 +165,7 @@ TellsGroupRequestsOf a (Some (make count asked)) status err err' = Unit {0}
 abbrev pub IsDone : ℕ → Type 0
 IsDone status = (status ≡ 0) ⊎ (status ≡ 8)
 
--- Where the files are read, no count rose of shelf and output, and of the door of the handed-in wire where that is served, a command is done or memory is wanting: of a query in one process, where none of the causes of the table is there, with nothing assumed of a wire; of a query over the handed-in wire, where that is as a server of some data makes it, or several, within the limits of what is served, and the bodies of the plan and the number of its addresses are within the options; of a service, and of data that are written.
+-- Where the files are read, no count rose of shelf and output, and of the door of the handed-in wire where that is served, a command is done or memory is wanting: of a query in one process, where none of the causes of the table is there, with nothing assumed of a wire; of a query over the handed-in wire, where that is as a server that answers over one version of its data makes it, or several, within the limits of what is served, and the bodies of the plan and the number of its addresses are within the options; of a service, and of data that are written.
 abbrev pub SucceedsOf : Around → Option Command → ℕ → Type 0
 SucceedsOf a None status = Unit {0}
 SucceedsOf a (Some (local name query_name choice page client seed fail_every)) status =
@@ -176,7 +176,7 @@ SucceedsOf a (Some (query url query_name client)) status =
     → OfQuery a.shelf.told query_name (λ q. (p : Publisher) (version : ℕ) → FitsOver a.allows q url (options_of client) p version a.wire a.wire' → IsDone status)
 SucceedsOf a (Some (federate several)) status =
     ¬ (Rose a.shelf.faults a.shelf'.faults) → ¬ (Rose a.out.faults a.out'.faults)
-    → OfQuery a.shelf.told several.query (λ q. (publishers : List Publisher) → FitsServers a.allows q several.urls (options_of several.client) publishers a.wire a.wire' → IsDone status)
+    → OfQuery a.shelf.told several.query (λ q. (publishers : List Publisher) (versions : List ℕ) → FitsServers a.allows q several.urls (options_of several.client) publishers versions a.wire a.wire' → IsDone status)
 SucceedsOf a (Some (serve name base choice page stop_after reload rows)) status =
     ¬ (Rose a.shelf.faults a.shelf'.faults) → ¬ (Rose a.out.faults a.out'.faults) → ¬ (Rose a.wire.door.faults a.wire'.door.faults)
     → IfTold a.shelf.told (λ files. (triples : List Triple) → Serves files name choice (authority_of base) triples → IsDone status)

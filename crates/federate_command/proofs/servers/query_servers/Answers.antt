@@ -18,7 +18,7 @@ returns-in-Ok-federate-clause-asks g c =
     (record {
       q = c.in-Ok.query;
       is_read = c.in-Ok.ensures.ok;
-      call = record { whole = e.whole; front = e.front; ended = e.ended; headline = e.headline; prefix = e.prefix; complete = e.complete; limits = e.limits; still = e.still; version = e.version; sink = e.sink };
+      call = record { whole = e.whole; front = e.front; ended = e.ended; headline = e.headline; prefix = e.prefix; complete = e.complete; limits = e.limits; still = e.still; still_limits = e.still_limits; version = e.version; sink = e.sink };
     })
     (reads_as _ _ _ _ _ (λ e. cc) (λ e. absurd e) c.in-Ok.ensures.reads)
     (record { keeps = record { later = e.sink.later; faultless = e.sink.faultless; spared = λ fine. (e.sink.spared fine).0 }; spared = λ fine. tt })
@@ -30,7 +30,7 @@ returns-clause-asks g c =
     (record {
       q = c.in-Ok.query;
       is_read = c.in-Ok.ensures.ok;
-      call = record { whole = e.whole; front = e.front; ended = e.ended; headline = e.headline; prefix = e.prefix; complete = e.complete; limits = e.limits; still = e.still; version = e.version; sink = e.sink };
+      call = record { whole = e.whole; front = e.front; ended = e.ended; headline = e.headline; prefix = e.prefix; complete = e.complete; limits = e.limits; still = e.still; still_limits = e.still_limits; version = e.version; sink = e.sink };
     })
     (valid_read c.in-Ok.query _ c.patterns-patterns.ensures.value c.patterns-patterns.ensures.valid)
     (reads_as _ _ _ _ _ (λ e. cc) (λ e. absurd e) c.in-Ok.ensures.reads)
