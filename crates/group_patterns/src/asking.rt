@@ -21,6 +21,15 @@ use text_base::Text;
 use tpf_base::Dial;
 use tpf_client::{ClientFault, Options, Report};
 
+/// What the calls for all blocks of a query have in common: the names of the query, the page at which each starts, and what bounds
+/// all of them together.
+#[derive(Drop)]
+pub(crate) struct BlockCalls<'a> {
+    pub(crate) names: &'a [Text],
+    pub(crate) start: &'a WebAddress,
+    pub(crate) options: &'a Options,
+}
+
 /// What the blocks that were asked so far came to: their rows, what is left of the budget, and the version that the last
 /// one told.
 #[derive(Drop)]
@@ -101,34 +110,32 @@ impl Asking {
         &mut self,
         rt: &R,
         alloc: Global,
-        names: &[Text],
+        calls: &BlockCalls<'_>,
         patterns: &[Pattern],
-        start: &WebAddress,
-        options: &Options,
         wire: &mut W,
     ) -> Result<(), ClientFault>
-        requires bounds { SuitsCalls options.now }
-        requires fit { AllByRecursion (IsPatternOf (length names.now)) patterns.now }
-        ensures ok { OnOk result (AsksBlock (W.allows wire.old) options.now start.now names.now patterns.now self.old
-            self.new (W.state wire.old) (W.state wire.new)) }
-        ensures err { IfErr result (λ fault. BlockEnds (W.allows wire.old) options.now start.now names.now
-            patterns.now self.old fault (W.state wire.old) (W.state wire.new)) }
+        requires bounds { SuitsCalls calls.now.options.now }
+        requires fit { AllByRecursion (IsPatternOf (length calls.now.names.now)) patterns.now }
+        ensures ok { OnOk result (AsksBlock (W.allows wire.old) calls.now.options.now calls.now.start.now
+            calls.now.names.now patterns.now self.old self.new (W.state wire.old) (W.state wire.new)) }
+        ensures err { IfErr result (λ fault. BlockEnds (W.allows wire.old) calls.now.options.now calls.now.start.now
+            calls.now.names.now patterns.now self.old fault (W.state wire.old) (W.state wire.new)) }
         ensures sink { IsErrOf result ClientFault.Sink → ⊥ }
         ensures allowed { SameAllowed (W.allows wire.old) (W.allows wire.new) }
     {
         if self.left == 0 {
-            return Err(ClientFault::Budget(options.budget));
+            return Err(ClientFault::Budget(calls.options.budget));
         }
         let own = Options {
-            window: options.window,
+            window: calls.options.window,
             block: BlockSize::one(),
-            links: options.links,
-            retries: options.retries,
+            links: calls.options.links,
+            retries: calls.options.retries,
             budget: self.left,
-            max_body: options.max_body,
+            max_body: calls.options.max_body,
         };
-        match collect_block(rt, alloc, names, patterns, start, &own, wire) {
-            Err(fault) => Err(of_block(fault, options.budget)),
+        match collect_block(rt, alloc, calls.names, patterns, calls.start, &own, wire) {
+            Err(fault) => Err(of_block(fault, calls.options.budget)),
             Ok((rows, report)) => self.keep(rows, report),
         }
     }
@@ -138,24 +145,22 @@ impl Asking {
         &mut self,
         rt: &R,
         alloc: Global,
-        names: &[Text],
+        calls: &BlockCalls<'_>,
         step: &Step,
-        start: &WebAddress,
-        options: &Options,
         wire: &mut W,
     ) -> Result<(), ClientFault>
-        requires bounds { SuitsCalls options.now }
-        requires fit { BlocksFit (length names.now) (block_in step.now) }
-        ensures ok { OnOk result (AsksStep (W.allows wire.old) options.now start.now names.now
-            (block_in step.now) self.old self.new (W.state wire.old) (W.state wire.new)) }
-        ensures err { IfErr result (λ fault. StepEnds (W.allows wire.old) options.now start.now names.now
-            (block_in step.now) self.old fault (W.state wire.old) (W.state wire.new)) }
+        requires bounds { SuitsCalls calls.now.options.now }
+        requires fit { BlocksFit (length calls.now.names.now) (block_in step.now) }
+        ensures ok { OnOk result (AsksStep (W.allows wire.old) calls.now.options.now calls.now.start.now
+            calls.now.names.now (block_in step.now) self.old self.new (W.state wire.old) (W.state wire.new)) }
+        ensures err { IfErr result (λ fault. StepEnds (W.allows wire.old) calls.now.options.now calls.now.start.now
+            calls.now.names.now (block_in step.now) self.old fault (W.state wire.old) (W.state wire.new)) }
         ensures sink { IsErrOf result ClientFault.Sink → ⊥ }
         ensures allowed { SameAllowed (W.allows wire.old) (W.allows wire.new) }
     {
         match patterns_of(step) {
             None => Ok(()),
-            Some(patterns) => self.ask_block(rt, alloc, names, patterns, start, options, wire),
+            Some(patterns) => self.ask_block(rt, alloc, calls, patterns, wire),
         }
     }
 
@@ -164,24 +169,22 @@ impl Asking {
         &mut self,
         rt: &R,
         alloc: Global,
-        names: &[Text],
+        calls: &BlockCalls<'_>,
         steps: &[Step],
-        start: &WebAddress,
-        options: &Options,
         wire: &mut W,
     ) -> Result<(), ClientFault>
-        requires bounds { SuitsCalls options.now }
-        requires fresh { self.old ≡ no_progress options.now.budget }
-        requires fit { BlocksFit (length names.now) (blocks_in steps.now) }
-        ensures ok { OnOk result (AsksBlocks (W.allows wire.old) options.now start.now names.now
-            (blocks_in steps.now) self.new (W.state wire.old) (W.state wire.new)) }
-        ensures err { IfErr result (λ fault. AsksSome (W.allows wire.old) options.now start.now names.now
-            (blocks_in steps.now) fault (W.state wire.old) (W.state wire.new)) }
+        requires bounds { SuitsCalls calls.now.options.now }
+        requires fresh { self.old ≡ no_progress calls.now.options.now.budget }
+        requires fit { BlocksFit (length calls.now.names.now) (blocks_in steps.now) }
+        ensures ok { OnOk result (AsksBlocks (W.allows wire.old) calls.now.options.now calls.now.start.now
+            calls.now.names.now (blocks_in steps.now) self.new (W.state wire.old) (W.state wire.new)) }
+        ensures err { IfErr result (λ fault. AsksSome (W.allows wire.old) calls.now.options.now calls.now.start.now
+            calls.now.names.now (blocks_in steps.now) fault (W.state wire.old) (W.state wire.new)) }
         ensures sink { IsErrOf result ClientFault.Sink → ⊥ }
         ensures allowed { SameAllowed (W.allows wire.old) (W.allows wire.new) }
     {
         for step in steps {
-            match self.ask_step(rt, alloc, names, step, start, options, wire) {
+            match self.ask_step(rt, alloc, calls, step, wire) {
                 Ok(()) => {}
                 Err(fault) => return Err(fault),
             }

@@ -15,7 +15,7 @@ ghost use Rattle.group_patterns.specs.Plans.{group_offer};
 ghost use Rattle.group_patterns.specs.Still.{GroupSucceedsStill};
 ghost use Rattle.group_patterns.specs.Texts.{WritesGroup, WritesGroupPrefix, WritesGathered, WritesGatheredFront, WritesGroupAnswers, WritesGroupAnswersFront};
 
-use crate::asking::Asking;
+use crate::asking::{Asking, BlockCalls};
 use crate::text::write_rows;
 use bgp_core::Row;
 use group_query::GroupQuery;
@@ -45,7 +45,12 @@ fn ask_blocks<R: Wait, W: Dial>(
 {
     let mut asking = Asking::new(alloc, options.budget);
     let names = query.shown().names();
-    match asking.ask_all(rt, alloc, names, query.steps(), start, options, wire) {
+    let calls = BlockCalls {
+        names,
+        start,
+        options,
+    };
+    match asking.ask_all(rt, alloc, &calls, query.steps(), wire) {
         Ok(()) => Ok(asking),
         Err(fault) => Err(fault),
     }

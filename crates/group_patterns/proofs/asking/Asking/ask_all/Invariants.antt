@@ -6,6 +6,6 @@ use Rattle.group_patterns.proofs.asking.Asking.ask_all.Given as goal
 
 abbrev pub invariant-loop-step : goal.invariant-loop-step
 invariant-loop-step g l = record {
-  first : AsksFirst (g.W.Wire.allows l.fn.wire) l.options l.start l.names (blocks_in l.steps) (blocks_in (drop l.step-index l.steps)) l.self (g.W.Wire.state l.fn.wire) (g.W.Wire.state l.wire);
+  first : AsksFirst (g.W.Wire.allows l.fn.wire) l.calls.options.now l.calls.start.now l.calls.names.now (blocks_in l.steps) (blocks_in (drop l.step-index l.steps)) l.self (g.W.Wire.state l.fn.wire) (g.W.Wire.state l.wire);
   allowed : SameAllowed (g.W.Wire.allows l.fn.wire) (g.W.Wire.allows l.wire);
 }

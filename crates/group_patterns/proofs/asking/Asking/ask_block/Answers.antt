@@ -18,8 +18,8 @@ returns-in-Ok-clause-ok g c =
     let b : BlockRows = record { report = c.in-Ok.report; rows = c.in-Ok.rows.items } in
     on-ok-from c.keep.result _ _ c.keep.ensures.ok (λ k. record {
       block = b;
-      gives = subst (λ (n : ℕ). GivesRows (g.W.Wire.allows c.args.wire.now) (with_budget c.args.options.now n) c.args.start.now (block_query c.args.names.now c.args.patterns.now) b (g.W.Wire.state c.args.wire.now) (g.W.Wire.state c.collect_block.new.wire)) (ap (λ (p : Progress). p.left) c.self.view_is)
-          (subst (λ (m : ℕ). GivesRows (g.W.Wire.allows c.args.wire.now) (record c.args.options.now { budget = c.self.inside.left; block = m }) c.args.start.now (block_query c.args.names.now c.args.patterns.now) b (g.W.Wire.state c.args.wire.now) (g.W.Wire.state c.collect_block.new.wire)) c.one.ensures c.in-Ok.ensures.ok);
+      gives = subst (λ (n : ℕ). GivesRows (g.W.Wire.allows c.args.wire.now) (with_budget c.args.calls.now.options.now n) c.args.calls.now.start.now (block_query c.args.calls.now.names.now c.args.patterns.now) b (g.W.Wire.state c.args.wire.now) (g.W.Wire.state c.collect_block.new.wire)) (ap (λ (p : Progress). p.left) c.self.view_is)
+          (subst (λ (m : ℕ). GivesRows (g.W.Wire.allows c.args.wire.now) (record c.args.calls.now.options.now { budget = c.self.inside.left; block = m }) c.args.calls.now.start.now (block_query c.args.calls.now.names.now c.args.patterns.now) b (g.W.Wire.state c.args.wire.now) (g.W.Wire.state c.collect_block.new.wire)) c.one.ensures c.in-Ok.ensures.ok);
       keeps = k;
     })
 
@@ -27,8 +27,8 @@ pub returns-in-Ok-clause-err : goal.returns-in-Ok-clause-err
 returns-in-Ok-clause-err g c =
     let b : BlockRows = record { report = c.in-Ok.report; rows = c.in-Ok.rows.items } in
     if-err-from c.keep.result _ _ c.keep.ensures.err (λ fault k. NotKept b
-    (subst (λ (n : ℕ). GivesRows (g.W.Wire.allows c.args.wire.now) (with_budget c.args.options.now n) c.args.start.now (block_query c.args.names.now c.args.patterns.now) b (g.W.Wire.state c.args.wire.now) (g.W.Wire.state c.collect_block.new.wire)) (ap (λ (p : Progress). p.left) c.self.view_is)
-    (subst (λ (m : ℕ). GivesRows (g.W.Wire.allows c.args.wire.now) (record c.args.options.now { budget = c.self.inside.left; block = m }) c.args.start.now (block_query c.args.names.now c.args.patterns.now) b (g.W.Wire.state c.args.wire.now) (g.W.Wire.state c.collect_block.new.wire)) c.one.ensures c.in-Ok.ensures.ok)) k)
+    (subst (λ (n : ℕ). GivesRows (g.W.Wire.allows c.args.wire.now) (with_budget c.args.calls.now.options.now n) c.args.calls.now.start.now (block_query c.args.calls.now.names.now c.args.patterns.now) b (g.W.Wire.state c.args.wire.now) (g.W.Wire.state c.collect_block.new.wire)) (ap (λ (p : Progress). p.left) c.self.view_is)
+    (subst (λ (m : ℕ). GivesRows (g.W.Wire.allows c.args.wire.now) (record c.args.calls.now.options.now { budget = c.self.inside.left; block = m }) c.args.calls.now.start.now (block_query c.args.calls.now.names.now c.args.patterns.now) b (g.W.Wire.state c.args.wire.now) (g.W.Wire.state c.collect_block.new.wire)) c.one.ensures c.in-Ok.ensures.ok)) k)
 
 pub returns-in-Ok-clause-sink : goal.returns-in-Ok-clause-sink
 returns-in-Ok-clause-sink g c = kept-no-sink (record { report = c.in-Ok.report; rows = c.in-Ok.rows.items }) c.args.self.now c.keep.result c.keep.ensures.err
@@ -36,8 +36,8 @@ returns-in-Ok-clause-sink g c = kept-no-sink (record { report = c.in-Ok.report; 
 pub returns-in-Err-clause-err : goal.returns-in-Err-clause-err
 returns-in-Err-clause-err g c =
     InCall c.in-Err.fault c.of_block.ensures
-    (subst (λ (n : ℕ). CallEnds (g.W.Wire.allows c.args.wire.now) (with_budget c.args.options.now n) c.args.start.now c.args.names.now c.args.patterns.now c.in-Err.fault (g.W.Wire.state c.args.wire.now) (g.W.Wire.state c.collect_block.new.wire)) (ap (λ (p : Progress). p.left) c.self.view_is)
-    (subst (λ (m : ℕ). CallEnds (g.W.Wire.allows c.args.wire.now) (record c.args.options.now { budget = c.self.inside.left; block = m }) c.args.start.now c.args.names.now c.args.patterns.now c.in-Err.fault (g.W.Wire.state c.args.wire.now) (g.W.Wire.state c.collect_block.new.wire)) c.one.ensures c.in-Err.ensures.err))
+    (subst (λ (n : ℕ). CallEnds (g.W.Wire.allows c.args.wire.now) (with_budget c.args.calls.now.options.now n) c.args.calls.now.start.now c.args.calls.now.names.now c.args.patterns.now c.in-Err.fault (g.W.Wire.state c.args.wire.now) (g.W.Wire.state c.collect_block.new.wire)) (ap (λ (p : Progress). p.left) c.self.view_is)
+    (subst (λ (m : ℕ). CallEnds (g.W.Wire.allows c.args.wire.now) (record c.args.calls.now.options.now { budget = c.self.inside.left; block = m }) c.args.calls.now.start.now c.args.calls.now.names.now c.args.patterns.now c.in-Err.fault (g.W.Wire.state c.args.wire.now) (g.W.Wire.state c.collect_block.new.wire)) c.one.ensures c.in-Err.ensures.err))
 
 pub returns-in-Err-clause-sink : goal.returns-in-Err-clause-sink
-returns-in-Err-clause-sink g c = block-no-sink c.args.options.now.budget c.in-Err.fault c.of_block.result c.of_block.ensures c.in-Err.ensures.sink
+returns-in-Err-clause-sink g c = block-no-sink c.args.calls.now.options.now.budget c.in-Err.fault c.of_block.result c.of_block.ensures c.in-Err.ensures.sink
