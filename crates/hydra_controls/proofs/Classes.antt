@@ -1,7 +1,8 @@
 -- The metadata are RDF: subjects are IRIs or blank nodes, predicates are IRIs.
-use Rattle.std.proofs.Common.{ℕ, ◌-◌, ◌+◌, List, [], ◌∷◌, ◌++◌, Bool, true, false, nat_lt}
+use Rattle.std.proofs.Common.{ℕ, ◌-◌, ◌+◌, List, ◌++◌, Bool, true, false, nat_lt}
 use Rattle.std.specs.Prelude.{codes}
 use Rattle.std.specs.List.{AllByRecursion}
+use Rattle.list_laws.proofs.Each.{all_append}
 use Rattle.rdf_terms.specs.Fragments.{last_page_of}
 use Rattle.rdf_terms.specs.Triples.{IsIri, IsIriOrBlank, IsRdfQuad}
 use Rattle.rdf_terms.specs.declared.term.Term.{Term}
@@ -9,10 +10,6 @@ use Rattle.tpf_base.specs.Addresses.{address_text}
 use Rattle.template_fill.specs.Pages.{page_address, template_text}
 use Rattle.template_fill.specs.Metadata.{foaf, void, hydra, owl, statement, topic_quads, form_quads, mapping_quads, count_quads, link_quads, version_quads, metadata_at, page_addresses, page_metadata}
 use Rattle.hydra_controls.specs.Laws.{MetadataIsRdf}
-
-pub all_append : {X : Type 0} (P : X → Type 0) (xs ys : List X) → AllByRecursion P xs → AllByRecursion P ys → AllByRecursion P (xs ++ ys)
-all_append P [] ys a b = b
-all_append P (x ∷ xs) ys a b = (a.0, all_append P xs ys a.1 b)
 
 rdf_statement : (graph : List ℕ) (s p o : Term) → IsIriOrBlank s → IsIri p → IsRdfQuad (statement graph s p o)
 rdf_statement graph s p o hs hp = record { triple = record { subject = hs; predicate = hp }; graph = tt }

@@ -1,6 +1,7 @@
 -- The parts of a text that are written.
 use Rattle.std.proofs.Common.{◌≡◌, ℕ, zero, suc, ◌+◌, ◌-◌, ◌<◌, ◌≤◌, min, Bool, true, false, List, [], ◌∷◌, ◌++◌, length, take, drop, refl, sym, ap, ap₂, ◌∙◌, arith, append_assoc, append-nil, length-append, length-drop}
 use Rattle.std.specs.Prelude.{nat_lt, ◌||◌}
+use Rattle.std.proofs.lemmas.Bool.{le-ltb, lt-ltb}
 use Rattle.std.proofs.lemmas.Bool.Decides.{nat_tests}
 use Rattle.std.proofs.lemmas.Grind.{common_steps}
 use Rattle.hydra_controls.specs.declared.cut.Cut.{Cut}
@@ -16,18 +17,12 @@ or_some : (a b : Bool) → b ≡ true → true ≡ (a || b)
 or_some true b some = refl
 or_some false b some = sym some
 
-not_below : (a b : ℕ) → b ≤ a → nat_lt a b ≡ false
-not_below a b h = grind (arith, nat_tests)
-
-is_below : (a b : ℕ) → a < b → nat_lt a b ≡ true
-is_below a b h = grind (arith, nat_tests)
-
 -- all of a part is passed over
 pub behind_all : (cut : Cut) (n : ℕ) → n ≤ cut.skip → record cut { skip = cut.skip - n } ≡ cut_behind cut n
 behind_all cut n h =
     let none : n - cut.skip ≡ 0 = omega arith in
     let room : cut.room ≡ cut.room - (n - cut.skip) = omega arith in
-    let more : cut.more ≡ (cut.more || nat_lt cut.room (n - cut.skip)) = or_more cut.more (nat_lt cut.room (n - cut.skip)) (not_below cut.room (n - cut.skip) (omega arith)) in
+    let more : cut.more ≡ (cut.more || nat_lt cut.room (n - cut.skip)) = or_more cut.more (nat_lt cut.room (n - cut.skip)) (le-ltb cut.room (n - cut.skip) (omega arith)) in
     λ i. record { skip = cut.skip - n; room = room i; more = more i }
 
 -- there is no room for all of it
@@ -35,14 +30,14 @@ pub behind_some : (cut : Cut) (n : ℕ) → cut.skip < n → cut.room < n - cut.
 behind_some cut n h short =
     let skip : 0 ≡ cut.skip - n = omega arith in
     let room : 0 ≡ cut.room - (n - cut.skip) = omega arith in
-    let more : true ≡ (cut.more || nat_lt cut.room (n - cut.skip)) = or_some cut.more (nat_lt cut.room (n - cut.skip)) (is_below cut.room (n - cut.skip) short) in
+    let more : true ≡ (cut.more || nat_lt cut.room (n - cut.skip)) = or_some cut.more (nat_lt cut.room (n - cut.skip)) (lt-ltb cut.room (n - cut.skip) short) in
     λ i. record { skip = skip i; room = room i; more = more i }
 
 -- there is
 pub behind_rest : (cut : Cut) (n : ℕ) → cut.skip < n → n - cut.skip ≤ cut.room → record { skip = 0; room = cut.room - (n - cut.skip); more = cut.more } ≡ cut_behind cut n
 behind_rest cut n h fits =
     let skip : 0 ≡ cut.skip - n = omega arith in
-    let more : cut.more ≡ (cut.more || nat_lt cut.room (n - cut.skip)) = or_more cut.more (nat_lt cut.room (n - cut.skip)) (not_below cut.room (n - cut.skip) fits) in
+    let more : cut.more ≡ (cut.more || nat_lt cut.room (n - cut.skip)) = or_more cut.more (nat_lt cut.room (n - cut.skip)) (le-ltb cut.room (n - cut.skip) fits) in
     λ i. record { skip = skip i; room = cut.room - (n - cut.skip); more = more i }
 
 taken_all : {A : Type 0} (n : ℕ) (xs : List A) → take (min n (length xs)) xs ≡ take n xs
@@ -118,7 +113,7 @@ cuts_then a b d first second old mid new h k = record {
       ∙ ap (λ (l : List ℕ). old ++ l) (sym (cut_append a first second));
 }
 
-nothing_left : {A : Type 0} (room skip : ℕ) → take {A = A} room (drop {A = A} skip []) ≡ []
+pub nothing_left : {A : Type 0} (room skip : ℕ) → take {A = A} room (drop {A = A} skip []) ≡ []
 nothing_left zero zero = refl
 nothing_left zero (suc skip) = refl
 nothing_left (suc room) zero = refl

@@ -5,5 +5,6 @@ pub mod TermLaws
 pub mod TableLaws
 pub mod LineLaws
 pub mod WholeLaws
+pub mod LineRows
 pub mod PageAddresses
 pub mod Classes

@@ -1,6 +1,7 @@
 -- The lines of a page's metadata: the quads that they are of, and what is written of them.
 use Rattle.std.proofs.Common.{◌≡◌, ℕ, ◌+◌, ◌-◌, ◌<◌, Bool, nat_lt, List, [], ◌∷◌, ◌++◌, length, take, drop, false, sym, ap, ap₂, subst, ◌∙◌, arith, append_assoc, append-nil, length-append}
 use Rattle.std.specs.Prelude.{codes, slice_index_or}
+use Rattle.std.proofs.lemmas.Bool.{le-ltb, lt-ltb}
 use Rattle.std.proofs.lemmas.List.{take_all, take_more}
 use Rattle.rdf_terms.specs.Canon.{canonical_line}
 use Rattle.rdf_terms.specs.Fragments.{last_page_of}
@@ -13,7 +14,6 @@ use Rattle.hydra_controls.specs.declared.cut.Cut.{Cut}
 use Rattle.hydra_controls.specs.declared.facts.PageFacts.{PageFacts}
 use Rattle.hydra_controls.specs.Cuts.{Cuts}
 use Rattle.hydra_controls.specs.Facts.{addresses_by, addresses_of, closing_of, counts_of, links_of, mapping_of, mappings_of, mark_of, next_of, page_text, previous_of, quads_of}
-use Rattle.hydra_controls.proofs.TableLaws.{is_above, is_below}
 
 -- ---- the quads of what the lines speak of
 
@@ -64,8 +64,8 @@ addresses_are base s first fixed k is mark = λ i. record {
 }
 
 mark_is : (base places : List ℕ) → mark_of (nat_lt (length base) (length (base ++ (places ++ [])))) ≡ page_mark places
-mark_is base [] = ap mark_of (is_above (length base) (length (base ++ [])) (omega (arith, length-append base [])))
-mark_is base (b ∷ places) = ap mark_of (is_below (length base) (length (base ++ (b ∷ (places ++ [])))) (omega (arith, length-append base (b ∷ (places ++ [])))))
+mark_is base [] = ap mark_of (le-ltb (length base) (length (base ++ [])) (omega (arith, length-append base [])))
+mark_is base (b ∷ places) = ap mark_of (lt-ltb (length base) (length (base ++ (b ∷ (places ++ [])))) (omega (arith, length-append base (b ∷ (places ++ [])))))
 
 mark_by : (base : Address) (s : Selection) → mark_of (nat_lt (length (address_text base)) (length (page_address base s 1))) ≡ page_mark (selection_text s)
 unfolding page_address
@@ -93,12 +93,15 @@ within quads value i same h = subst (λ (l : List Quad). i < length l) (sym same
 cut_is : (from most : ℕ) (text old new : List ℕ) (after : Cut) → Cuts (record { skip = from; room = most; more = false }) after text old new → (new ≡ old ++ take most (drop from text)) × (after.more ≡ nat_lt most (length text - from))
 cut_is from most text old new after h = (h.appended, ap (λ (c : Cut). c.more) h.behind)
 
--- a part of the line of a quad was appended
-pub part_appended : (from most : ℕ) (before after : Cut) (old new : List ℕ) (q at : Quad) → before ≡ record { skip = from; room = most; more = false } → Cuts before after (canonical_line q) old new → at ≡ q
-    → (new ≡ old ++ take most (drop from (canonical_line at))) × (after.more ≡ nat_lt most (length (canonical_line at) - from))
-part_appended from most before after old new q at begun written is =
-    let own = cut_is from most (canonical_line q) old new after (subst (λ (c : Cut). Cuts c after (canonical_line q) old new) begun written) in
-    (own.0 ∙ ap (λ (x : Quad). old ++ take most (drop from (canonical_line x))) (sym is), own.1 ∙ ap (λ (x : Quad). nat_lt most (length (canonical_line x) - from)) (sym is))
+pub placed_line : (quads value : List Quad) (i : ℕ) (d : Quad) (text : List ℕ) → quads ≡ value → canonical_line (slice_index_or quads i d) ≡ text → canonical_line (slice_index_or value i d) ≡ text
+placed_line quads value i d text same is = ap (λ (l : List Quad). canonical_line (slice_index_or l i d)) (sym same) ∙ is
+
+-- a part of a line was appended
+pub part_appended : (from most : ℕ) (before after : Cut) (old new text line : List ℕ) → before ≡ record { skip = from; room = most; more = false } → Cuts before after text old new → line ≡ text
+    → (new ≡ old ++ take most (drop from line)) × (after.more ≡ nat_lt most (length line - from))
+part_appended from most before after old new text line begun written is =
+    let own = cut_is from most text old new after (subst (λ (c : Cut). Cuts c after text old new) begun written) in
+    (own.0 ∙ ap (λ (l : List ℕ). old ++ take most (drop from l)) (sym is), own.1 ∙ ap (λ (l : List ℕ). nat_lt most (length l - from)) (sym is))
 
 -- a part as long as the line is the line
 pub whole_appended : (room : ℕ) (line old mid new : List ℕ) → room ≡ length line → mid ≡ old → new ≡ mid ++ take room (drop 0 line) → new ≡ old ++ line

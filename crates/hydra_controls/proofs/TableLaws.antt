@@ -1,5 +1,5 @@
 -- The statements of the metadata by their places.
-use Rattle.std.proofs.Common.{◌≡◌, ℕ, ◌+◌, ◌-◌, ◌<◌, ◌≤◌, Bool, true, false, nat_lt, List, [], ◌∷◌, ◌++◌, length, refl, sym, ap, subst, ◌∙◌, arith, append_assoc, append-nil, length-append, if◌then◌else◌}
+use Rattle.std.proofs.Common.{◌≡◌, ℕ, ◌+◌, ◌-◌, ◌<◌, ◌≤◌, ◌==◌, Bool, true, false, nat_lt, List, [], ◌∷◌, ◌++◌, length, refl, sym, ap, subst, ◌∙◌, arith, append_assoc, append-nil, length-append, if◌then◌else◌}
 use Rattle.std.specs.Prelude.{Some, codes, slice_index_or}
 use Rattle.std.specs.List.{list_all}
 use Rattle.std.proofs.lemmas.Bool.{lt-ltb, le-ltb, ne_eqb}
@@ -13,7 +13,7 @@ use Rattle.template_fill.specs.Pages.{page_pair}
 use Rattle.template_fill.specs.Metadata.{graph_at, statement, topic_quads, form_quads, mapping_quads, count_quads, link_quads, version_quads}
 use Rattle.hydra_controls.specs.declared.facts.PageFacts.{PageFacts}
 use Rattle.hydra_controls.specs.Facts.{addresses_of, closing_of, counts_of, form_of, links_of, mapping_of, mappings_of, mark_of, next_of, previous_of, quads_of, topic_of, version_of}
-use Rattle.hydra_controls.proofs.Iris.{all_joined, decimal-iri, is_iri-append}
+use Rattle.hydra_controls.proofs.Iris.{decimal-iri, is_iri-append}
 
 -- ---- the address of a page
 
@@ -34,11 +34,15 @@ mark-iri : (fixed : Bool) (more : List ℕ) → list_all is_iri_byte more ≡ tr
 mark-iri true more own = own
 mark-iri false more own = own
 
-pub page_above-iri : (first middle name : List ℕ) (fixed : Bool) (k : ℕ) → middle ≡ mark_of fixed ∷ codes "page=" → is_iri first ≡ true → list_all is_iri_byte name ≡ true
-    → is_iri (first ++ (middle ++ (decimal_text k ++ name))) ≡ true
-page_above-iri first middle name fixed k is own all =
-    is_iri-append first (middle ++ (decimal_text k ++ name)) own
-    (subst (λ (l : List ℕ). list_all is_iri_byte (l ++ (decimal_text k ++ name)) ≡ true) (sym is) (mark-iri fixed (decimal_text k ++ name) (all_joined is_iri_byte (decimal_text k) name (decimal-iri k) all)))
+pair-iri : (first_page fixed : Bool) (k : ℕ) → list_all is_iri_byte (if first_page then [] else mark_of fixed ∷ (codes "page=" ++ decimal_text k)) ≡ true
+pair-iri true fixed k = refl
+pair-iri false fixed k = mark-iri fixed (decimal_text k) (decimal-iri k)
+
+-- the address of a page, with more characters of an IRI behind it, is an IRI
+pub page_is_iri : (first name text : List ℕ) (fixed : Bool) (k : ℕ) → text ≡ (first ++ page_pair (mark_of fixed) k) ++ name → is_iri first ≡ true → list_all is_iri_byte name ≡ true → is_iri text ≡ true
+page_is_iri first name text fixed k is own all =
+    let page = is_iri-append first (page_pair (mark_of fixed) k) own (pair-iri (k == 1) fixed k) in
+    subst (λ (l : List ℕ). is_iri l ≡ true) (sym is) (is_iri-append (first ++ page_pair (mark_of fixed) k) name page all)
 
 -- ---- a statement in a list
 
@@ -161,12 +165,6 @@ pub third_mapping : (f : PageFacts) (i j : ℕ) (d : Quad) → i ≡ 6 + j → s
 third_mapping f i j d is =
     behind_first f i (3 + j) d (omega (arith, is)) ∙ behind (mapping_of f (codes "p") (codes "predicate")) (mapping_of f (codes "o") (codes "object")) 3 (3 + j) j d (mapping_size f (codes "p") (codes "predicate")) refl
 
-pub is_below : (m n : ℕ) → m < n → nat_lt m n ≡ true
-is_below m n h = lt-ltb m n h
-
-pub is_above : (m n : ℕ) → n ≤ m → nat_lt m n ≡ false
-is_above m n h = le-ltb m n h
-
 -- ---- links and the version
 
 module _ (there : Bool) (graph page name target : List ℕ) (rest : List Quad) (d : Quad) where
@@ -188,51 +186,51 @@ version_alone : (f : PageFacts) (q : Quad) (i : ℕ) (d : Quad) → version_of f
 version_alone f q i d one zero = ap (λ (l : List Quad). slice_index_or l i d) one ∙ ap (λ (n : ℕ). slice_index_or (q ∷ []) n d) zero
 
 previous_size : (f : PageFacts) → 1 < f.number → length (closing_of f) ≡ 2
-previous_size f some = closing_size f ∙ ap (λ (b : Bool). (if b then 1 else 0) + 1) (is_below 1 f.number some)
+previous_size f some = closing_size f ∙ ap (λ (b : Bool). (if b then 1 else 0) + 1) (lt-ltb 1 f.number some)
 
 no_previous_size : (f : PageFacts) → f.number ≤ 1 → length (closing_of f) ≡ 1
-no_previous_size f none = closing_size f ∙ ap (λ (b : Bool). (if b then 1 else 0) + 1) (is_above 1 f.number none)
+no_previous_size f none = closing_size f ∙ ap (λ (b : Bool). (if b then 1 else 0) + 1) (le-ltb 1 f.number none)
 
 pub previous_first : (f : PageFacts) (q : Quad) (i : ℕ) (d : Quad) → 1 < f.number → i ≡ 0
     → link_quads true (graph_at (addresses_of f)) (addresses_of f).page (codes "previous") (addresses_of f).previous ≡ q ∷ [] → slice_index_or (closing_of f) i d ≡ q
 unfolding closing_of
 previous_first f q i d some zero one =
-    link_first (nat_lt 1 f.number) (graph_at (addresses_of f)) (addresses_of f).page (codes "previous") (addresses_of f).previous (version_of f) d q i (is_below 1 f.number some) zero one
+    link_first (nat_lt 1 f.number) (graph_at (addresses_of f)) (addresses_of f).page (codes "previous") (addresses_of f).previous (version_of f) d q i (lt-ltb 1 f.number some) zero one
 
 pub version_behind : (f : PageFacts) (q : Quad) (i : ℕ) (d : Quad) → 1 < f.number → (i ≡ 0 → ⊥) → i < length (closing_of f) → version_of f ≡ q ∷ [] → slice_index_or (closing_of f) i d ≡ q
 unfolding closing_of
 version_behind f q i d some other within one =
     let last : i ≡ 1 + 0 = omega (arith, other, within, previous_size f some) in
-    link_passed (nat_lt 1 f.number) (graph_at (addresses_of f)) (addresses_of f).page (codes "previous") (addresses_of f).previous (version_of f) d i 0 (is_below 1 f.number some) last
+    link_passed (nat_lt 1 f.number) (graph_at (addresses_of f)) (addresses_of f).page (codes "previous") (addresses_of f).previous (version_of f) d i 0 (lt-ltb 1 f.number some) last
     ∙ version_alone f q 0 d one refl
 
 pub version_first : (f : PageFacts) (q : Quad) (i : ℕ) (d : Quad) → f.number ≤ 1 → i < length (closing_of f) → version_of f ≡ q ∷ [] → slice_index_or (closing_of f) i d ≡ q
 unfolding closing_of
 version_first f q i d none within one =
-    link_missing (nat_lt 1 f.number) (graph_at (addresses_of f)) (addresses_of f).page (codes "previous") (addresses_of f).previous (version_of f) d i (is_above 1 f.number none)
+    link_missing (nat_lt 1 f.number) (graph_at (addresses_of f)) (addresses_of f).page (codes "previous") (addresses_of f).previous (version_of f) d i (le-ltb 1 f.number none)
     ∙ version_alone f q i d one (omega (arith, within, no_previous_size f none))
 
 next_size : (f : PageFacts) → f.number < f.last → length (links_of f) ≡ 1 + length (closing_of f)
-next_size f some = links_size f ∙ ap (λ (b : Bool). (if b then 1 else 0) + ((if nat_lt 1 f.number then 1 else 0) + 1)) (is_below f.number f.last some) ∙ ap (λ (n : ℕ). 1 + n) (sym (closing_size f))
+next_size f some = links_size f ∙ ap (λ (b : Bool). (if b then 1 else 0) + ((if nat_lt 1 f.number then 1 else 0) + 1)) (lt-ltb f.number f.last some) ∙ ap (λ (n : ℕ). 1 + n) (sym (closing_size f))
 
 no_next_size : (f : PageFacts) → f.last ≤ f.number → length (links_of f) ≡ length (closing_of f)
-no_next_size f none = omega (arith, links_size f, ap (λ (b : Bool). (if b then 1 else 0) + ((if nat_lt 1 f.number then 1 else 0) + 1)) (is_above f.number f.last none), closing_size f)
+no_next_size f none = omega (arith, links_size f, ap (λ (b : Bool). (if b then 1 else 0) + ((if nat_lt 1 f.number then 1 else 0) + 1)) (le-ltb f.number f.last none), closing_size f)
 
 pub next_first : (f : PageFacts) (q : Quad) (i : ℕ) (d : Quad) → f.number < f.last → i ≡ 0
     → link_quads true (graph_at (addresses_of f)) (addresses_of f).page (codes "next") (addresses_of f).next ≡ q ∷ [] → slice_index_or (links_of f) i d ≡ q
 unfolding links_of
 next_first f q i d some zero one =
-    link_first (nat_lt f.number f.last) (graph_at (addresses_of f)) (addresses_of f).page (codes "next") (addresses_of f).next (closing_of f) d q i (is_below f.number f.last some) zero one
+    link_first (nat_lt f.number f.last) (graph_at (addresses_of f)) (addresses_of f).page (codes "next") (addresses_of f).next (closing_of f) d q i (lt-ltb f.number f.last some) zero one
 
 pub behind_next : (f : PageFacts) (q : Quad) (i : ℕ) (d : Quad) → f.number < f.last → (i ≡ 0 → ⊥) → slice_index_or (closing_of f) (i - 1) d ≡ q → slice_index_or (links_of f) i d ≡ q
 unfolding links_of
 behind_next f q i d some other is =
-    link_passed (nat_lt f.number f.last) (graph_at (addresses_of f)) (addresses_of f).page (codes "next") (addresses_of f).next (closing_of f) d i (i - 1) (is_below f.number f.last some) (omega (arith, other)) ∙ is
+    link_passed (nat_lt f.number f.last) (graph_at (addresses_of f)) (addresses_of f).page (codes "next") (addresses_of f).next (closing_of f) d i (i - 1) (lt-ltb f.number f.last some) (omega (arith, other)) ∙ is
 
 pub without_next : (f : PageFacts) (q : Quad) (i : ℕ) (d : Quad) → f.last ≤ f.number → slice_index_or (closing_of f) i d ≡ q → slice_index_or (links_of f) i d ≡ q
 unfolding links_of
 without_next f q i d none is =
-    link_missing (nat_lt f.number f.last) (graph_at (addresses_of f)) (addresses_of f).page (codes "next") (addresses_of f).next (closing_of f) d i (is_above f.number f.last none) ∙ is
+    link_missing (nat_lt f.number f.last) (graph_at (addresses_of f)) (addresses_of f).page (codes "next") (addresses_of f).next (closing_of f) d i (le-ltb f.number f.last none) ∙ is
 
 pub behind_next_within : (f : PageFacts) (i : ℕ) → f.number < f.last → (i ≡ 0 → ⊥) → i < length (links_of f) → i - 1 < length (closing_of f)
 behind_next_within f i some other within = omega (arith, other, within, next_size f some)

@@ -1,14 +1,13 @@
--- Texts of terms and lines that are appended whole.
+-- Texts and lines that are appended whole.
 use Rattle.std.proofs.Common.{◌≡◌, ℕ, ◌+◌, ◌<◌, ◌≤◌, ◌==◌, List, [], ◌∷◌, ◌++◌, true, length, drop, sym, ap, ◌∙◌, arith, append_assoc, append-nil, length-append}
-use Rattle.std.specs.Prelude.{slice_index_or}
 use Rattle.std.proofs.lemmas.List.{drop_all, drop_more}
 use Rattle.rdf_terms.specs.declared.term.Quad.{Quad}
-use Rattle.rdf_terms.specs.Canon.{canonical_line, canonical_term}
-use Rattle.hydra_controls.specs.declared.term_text.TermText.{TermText}
-use Rattle.hydra_controls.specs.declared.quad_text.QuadText.{QuadText}
+use Rattle.rdf_terms.specs.declared.term.Term.TheVariants.{Iri}
+use Rattle.template_fill.specs.Metadata.{statement}
+use Rattle.hydra_controls.specs.declared.line_text.LineText.{LineText}
+use Rattle.hydra_controls.specs.declared.text_parts.TextParts.{TextParts}
 use Rattle.hydra_controls.specs.Lines.{lines_text}
-use Rattle.hydra_controls.specs.TermTexts.{IsTerm, closing, digits_of, opening, quad_of, term_of, text_of}
-use Rattle.hydra_controls.proofs.TermLaws.{parts_stand, spaced, term_written}
+use Rattle.hydra_controls.specs.LineTexts.{IsLineAt, digits_of, text_of, text_of_line}
 
 pub nothing_appended : (old text : List ℕ) → (length text == 0) ≡ true → old ≡ old ++ text
 nothing_appended old [] h = sym (append-nil old)
@@ -18,33 +17,19 @@ nothing_appended old (x ∷ text) h = absurd (grind (arith, h))
 two_appended : (old one new a b : List ℕ) → one ≡ old ++ a → new ≡ one ++ b → new ≡ old ++ (a ++ b)
 two_appended old one new a b first second = second ∙ ap (λ (l : List ℕ). l ++ b) first ∙ append_assoc old a b
 
-pub text_whole : (t : TermText) (old one two three new : List ℕ) → one ≡ old ++ t.front.now → two ≡ one ++ t.middle.now → three ≡ two ++ digits_of t.number → new ≡ three ++ t.end.now
+four_appended : (a b d e old one two three new : List ℕ) → one ≡ old ++ a → two ≡ one ++ b → three ≡ two ++ d → new ≡ three ++ e → new ≡ old ++ (a ++ (b ++ (d ++ e)))
+four_appended a b d e old one two three new first second third fourth =
+    two_appended old one new a (b ++ (d ++ e)) first (two_appended one two new b (d ++ e) second (two_appended two three new d e third fourth))
+
+-- a text in parts
+pub text_whole : (t : TextParts) (old one two three new : List ℕ) → one ≡ old ++ t.front.now → two ≡ one ++ t.middle.now → three ≡ two ++ digits_of t.number → new ≡ three ++ t.end.now
     → new ≡ old ++ text_of t
-text_whole t old one two three new first second third fourth =
-    two_appended old one new t.front.now (t.middle.now ++ (digits_of t.number ++ t.end.now)) first
-    (two_appended one two new t.middle.now (digits_of t.number ++ t.end.now) second (two_appended two three new (digits_of t.number) t.end.now third fourth))
+text_whole t old one two three new first second third fourth = four_appended t.front.now t.middle.now (digits_of t.number) t.end.now old one two three new first second third fourth
 
-pub term_whole : (t : TermText) → IsTerm t → (opened closed old one two new : List ℕ) → opened ≡ opening t.kind → closed ≡ closing t.kind ++ 32 ∷ []
-    → one ≡ old ++ opened → two ≡ one ++ text_of t → new ≡ two ++ closed → new ≡ old ++ (canonical_term (term_of t) ++ 32 ∷ [])
-term_whole t own opened closed old one two new of_opened of_closed first second third =
-    two_appended old one new (opening t.kind) (text_of t ++ (closing t.kind ++ 32 ∷ [])) (first ∙ ap (λ (l : List ℕ). old ++ l) of_opened)
-    (two_appended one two new (text_of t) (closing t.kind ++ 32 ∷ []) second (third ∙ ap (λ (l : List ℕ). two ++ l) of_closed))
-    ∙ ap (λ (l : List ℕ). old ++ l) (spaced (opening t.kind) (text_of t) (closing t.kind) ∙ ap (λ (l : List ℕ). l ++ 32 ∷ []) (sym (term_written t own)))
-
-pub line_whole : (q : QuadText) (old one two three four new : List ℕ)
-    → one ≡ old ++ (canonical_term (term_of q.subject) ++ 32 ∷ []) → two ≡ one ++ (canonical_term (term_of q.predicate) ++ 32 ∷ [])
-    → three ≡ two ++ (canonical_term (term_of q.object) ++ 32 ∷ []) → four ≡ three ++ (canonical_term (term_of q.graph) ++ 32 ∷ []) → new ≡ four ++ 46 ∷ 10 ∷ []
-    → new ≡ old ++ canonical_line (quad_of q)
-unfolding quad_of
-line_whole q old one two three four new first second third fourth fifth =
-    let s = canonical_term (term_of q.subject) in
-    let p = canonical_term (term_of q.predicate) in
-    let o = canonical_term (term_of q.object) in
-    let g = canonical_term (term_of q.graph) in
-    two_appended old one new (s ++ 32 ∷ []) ((p ++ 32 ∷ []) ++ ((o ++ 32 ∷ []) ++ ((g ++ 32 ∷ []) ++ 46 ∷ 10 ∷ []))) first
-    (two_appended one two new (p ++ 32 ∷ []) ((o ++ 32 ∷ []) ++ ((g ++ 32 ∷ []) ++ 46 ∷ 10 ∷ [])) second
-    (two_appended two three new (o ++ 32 ∷ []) ((g ++ 32 ∷ []) ++ 46 ∷ 10 ∷ []) third (two_appended three four new (g ++ 32 ∷ []) (46 ∷ 10 ∷ []) fourth fifth)))
-    ∙ ap (λ (l : List ℕ). old ++ l) (parts_stand s p o g)
+-- a line
+pub line_whole : (l : LineText) (old one two three new : List ℕ) → one ≡ old ++ l.opening.now → two ≡ one ++ text_of l.subject → three ≡ two ++ text_of l.object → new ≡ three ++ text_of l.graph
+    → new ≡ old ++ text_of_line l
+line_whole l old one two three new first second third fourth = four_appended l.opening.now (text_of l.subject) (text_of l.object) (text_of l.graph) old one two three new first second third fourth
 
 -- ---- the lines of a list of quads
 
@@ -52,27 +37,29 @@ line_whole q old one two three four new first second third fourth fifth =
 abbrev pub lines_from : List Quad → ℕ → List ℕ
 lines_from quads i = lines_text (drop i quads)
 
-pub next_line : (quads : List Quad) (i : ℕ) (d : Quad) → i < length quads → lines_from quads i ≡ canonical_line (slice_index_or quads i d) ++ lines_from quads (i + 1)
-next_line quads i d within = ap lines_text (drop_more quads i d within)
+some_quad : Quad
+some_quad = statement [] (Iri []) (Iri []) (Iri [])
 
-pub no_line : (quads : List Quad) (i : ℕ) → length quads ≤ i → lines_from quads i ≡ []
+next_line : (quads : List Quad) (i : ℕ) (text : List ℕ) → i < length quads → IsLineAt quads i text → lines_from quads i ≡ text ++ lines_from quads (i + 1)
+next_line quads i text within at = ap lines_text (drop_more quads i some_quad within) ∙ ap (λ (l : List ℕ). l ++ lines_from quads (i + 1)) (at some_quad)
+
+no_line : (quads : List Quad) (i : ℕ) → length quads ≤ i → lines_from quads i ≡ []
 no_line quads i past = ap lines_text (drop_all i quads past)
 
 -- one line more was counted
-pub line_counted : (quads : List Quad) (i sum line : ℕ) (q : Quad) → i < length quads → ((d : Quad) → slice_index_or quads i d ≡ q) → line ≡ length (canonical_line q)
+pub line_counted : (quads : List Quad) (i sum line : ℕ) (text : List ℕ) → i < length quads → IsLineAt quads i text → line ≡ length text
     → sum + length (lines_from quads i) ≡ length (lines_from quads 0) → sum + line + length (lines_from quads (i + 1)) ≡ length (lines_from quads 0)
-line_counted quads i sum line q within at size so_far =
-    let next = ap (λ (l : List ℕ). length l) (next_line quads i q within ∙ ap (λ (x : Quad). canonical_line x ++ lines_from quads (i + 1)) (at q)) in
-    omega (arith, next, size, so_far, length-append (canonical_line q) (lines_from quads (i + 1)))
+line_counted quads i sum line text within at size so_far =
+    let next = ap (λ (l : List ℕ). length l) (next_line quads i text within at) in
+    omega (arith, next, size, so_far, length-append text (lines_from quads (i + 1)))
 
 -- one line more was appended
-pub line_appended : (quads : List Quad) (i : ℕ) (text before after : List ℕ) (q : Quad) → i < length quads → ((d : Quad) → slice_index_or quads i d ≡ q) → after ≡ before ++ canonical_line q
-    → before ++ lines_from quads i ≡ text → after ++ lines_from quads (i + 1) ≡ text
-line_appended quads i text before after q within at appended so_far =
+pub line_appended : (quads : List Quad) (i : ℕ) (all before after text : List ℕ) → i < length quads → IsLineAt quads i text → after ≡ before ++ text
+    → before ++ lines_from quads i ≡ all → after ++ lines_from quads (i + 1) ≡ all
+line_appended quads i all before after text within at appended so_far =
     ap (λ (l : List ℕ). l ++ lines_from quads (i + 1)) appended
-    ∙ append_assoc before (canonical_line q) (lines_from quads (i + 1))
-    ∙ ap (λ (x : Quad). before ++ (canonical_line x ++ lines_from quads (i + 1))) (sym (at q))
-    ∙ ap (λ (l : List ℕ). before ++ l) (sym (next_line quads i q within))
+    ∙ append_assoc before text (lines_from quads (i + 1))
+    ∙ ap (λ (l : List ℕ). before ++ l) (sym (next_line quads i text within at))
     ∙ so_far
 
 -- all lines were appended

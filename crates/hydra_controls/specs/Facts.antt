@@ -2,8 +2,10 @@
 use Rattle.std.specs.Prelude.{ℕ, ◌≡◌, ◌+◌, ◌-◌, Bool, true, false, nat_lt, List, ◌++◌, codes}
 use Rattle.rdf_terms.specs.Iri.{is_iri}
 use Rattle.rdf_terms.specs.declared.term.Quad.{Quad}
+use Rattle.rdf_terms.specs.declared.term.Term.TheVariants.{Iri}
+use Rattle.tpf_base.specs.Decimals.{decimal_text}
 use Rattle.template_fill.specs.Pages.{page_pair}
-use Rattle.template_fill.specs.Metadata.{PageAddresses, graph_at, topic_quads, form_quads, mapping_quads, count_quads, link_quads, version_quads}
+use Rattle.template_fill.specs.Metadata.{PageAddresses, graph_at, hydra, owl, plain, statement, topic_quads, form_quads, mapping_quads, count_quads, link_quads, version_quads}
 use Rattle.hydra_controls.specs.declared.facts.PageFacts.{PageFacts}
 
 -- & where a place is fixed, and ? else
@@ -57,6 +59,18 @@ previous_of f = link_quads (nat_lt 1 f.number) (graph_at (addresses_of f)) (addr
 
 abbrev pub version_of : PageFacts → List Quad
 version_of f = version_quads (graph_at (addresses_of f)) f.base.now f.version
+
+-- the link to the next page, where there is one
+abbrev pub next_quad : PageFacts → Quad
+next_quad f = statement (graph_at (addresses_of f)) (Iri (addresses_of f).page) (hydra (codes "next")) (Iri (addresses_of f).next)
+
+-- the link to the previous page, where there is one
+abbrev pub previous_quad : PageFacts → Quad
+previous_quad f = statement (graph_at (addresses_of f)) (Iri (addresses_of f).page) (hydra (codes "previous")) (Iri (addresses_of f).previous)
+
+-- the statement of the version
+abbrev pub version_quad : PageFacts → Quad
+version_quad f = statement (graph_at (addresses_of f)) (Iri (f.base.now ++ codes "#dataset")) (owl (codes "versionInfo")) (plain (decimal_text f.version))
 
 -- the link to the previous page, and the version
 unfoldable pub closing_of : PageFacts → List Quad

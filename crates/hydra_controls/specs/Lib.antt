@@ -1,4 +1,5 @@
 pub mod TermTexts
+pub mod LineTexts
 pub mod Facts
 pub mod Laws
 pub mod Cuts

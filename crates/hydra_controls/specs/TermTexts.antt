@@ -1,31 +1,22 @@
--- Terms and quads by the texts that they are written with.
-use Rattle.std.specs.Prelude.{ℕ, ◌≡◌, ◌==◌, Bool, not, true, false, List, [], ◌∷◌, ◌++◌, length, codes, Option, Some, None}
+-- Terms and quads by the texts that they are of.
+use Rattle.std.specs.Prelude.{ℕ, ◌≡◌, Bool, not, true, List, codes, Some}
 use Rattle.std.specs.List.{list_all}
-use Rattle.rdf_terms.specs.Canon.{canonical_term, is_marked}
+use Rattle.rdf_terms.specs.Canon.{is_marked}
 use Rattle.rdf_terms.specs.Iri.{is_iri}
 use Rattle.rdf_terms.specs.Label.{is_label}
 use Rattle.rdf_terms.specs.declared.term.Term.{Term}
 use Rattle.rdf_terms.specs.declared.term.Term.TheVariants as terms
 use Rattle.rdf_terms.specs.declared.term.Kind.TheVariants as literals
 use Rattle.rdf_terms.specs.declared.term.Quad.{Quad}
-use Rattle.tpf_base.specs.Decimals.{decimal_text}
 use Rattle.hydra_controls.specs.declared.term_text.TermKind.{TermKind}
 use Rattle.hydra_controls.specs.declared.term_text.TermKind.TheVariants as kinds
 use Rattle.hydra_controls.specs.declared.term_text.TermText.{TermText}
 use Rattle.hydra_controls.specs.declared.quad_text.QuadText.{QuadText}
+use Rattle.hydra_controls.specs.LineTexts.{text_of}
 
 -- the datatype of whole numbers
 abbrev pub xsd_integer : List ℕ
 xsd_integer = codes "http://www.w3.org/2001/XMLSchema#integer"
-
--- the digits of a number, if there is one
-abbrev pub digits_of : Option ℕ → List ℕ
-digits_of None = []
-digits_of (Some number) = decimal_text number
-
--- the text of a term: the IRI, the label, or the form of the literal
-abbrev pub text_of : TermText → List ℕ
-text_of t = t.front.now ++ (t.middle.now ++ (digits_of t.number ++ t.end.now))
 
 -- the term of a kind with a text
 abbrev pub term_as : TermKind → List ℕ → Term
@@ -34,9 +25,11 @@ term_as kinds.Blank text = terms.Blank text
 term_as kinds.Plain text = terms.Literal text literals.Plain
 term_as kinds.Integer text = terms.Literal text (literals.Typed xsd_integer)
 
+-- the term of its kind with its text
 unfoldable pub term_of : TermText → Term
-term_of t = term_as t.kind (text_of t)
+term_of t = term_as t.kind (text_of t.text)
 
+-- the quad of its terms
 unfoldable pub quad_of : QuadText → Quad
 quad_of q = record {
   triple = record { subject = term_of q.subject; predicate = term_of q.predicate; object = term_of q.object };
@@ -54,33 +47,13 @@ IsTextOf kinds.Blank text = is_label text ≡ true
 IsTextOf kinds.Plain text = list_all is_plain_byte text ≡ true
 IsTextOf kinds.Integer text = list_all is_plain_byte text ≡ true
 
--- the canonical text of an IRI and a space
-abbrev pub iri_spaced : List ℕ → List ℕ
-iri_spaced text = 60 ∷ (text ++ 62 ∷ 32 ∷ [])
-
--- the text is empty, or the canonical text of the term and a space
-abbrev pub IsWhole : List ℕ → Term → Type 0
-IsWhole whole term = (length whole == 0) ≡ false → whole ≡ canonical_term term ++ 32 ∷ []
-
+-- the text is one of the term's kind
 pub record IsTerm (t : TermText) : Type 0 where
-  pub text : IsTextOf t.kind (text_of t)
-  pub whole : IsWhole t.whole.now (term_of t)
+  pub text : IsTextOf t.kind (text_of t.text)
 
+-- the four terms have texts of their kinds
 pub record AreTerms (q : QuadText) : Type 0 where
   pub subject : IsTerm q.subject
   pub predicate : IsTerm q.predicate
   pub object : IsTerm q.object
   pub graph : IsTerm q.graph
-
--- what stands before and behind the text of a term in its canonical text
-abbrev pub opening : TermKind → List ℕ
-opening kinds.Iri = codes "<"
-opening kinds.Blank = codes "_:"
-opening kinds.Plain = codes "\""
-opening kinds.Integer = codes "\""
-
-abbrev pub closing : TermKind → List ℕ
-closing kinds.Iri = codes ">"
-closing kinds.Blank = []
-closing kinds.Plain = codes "\""
-closing kinds.Integer = codes "\"^^<http://www.w3.org/2001/XMLSchema#integer>"

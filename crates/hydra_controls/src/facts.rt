@@ -5,13 +5,15 @@ ghost use Rattle.rdf_terms.specs.Iri.{is_iri_byte};
 ghost use Rattle.rdf_terms.specs.Label.{is_label};
 ghost use Rattle.rdf_terms.specs.declared.term.Quad.{Quad};
 ghost use Rattle.template_fill.specs.Metadata.{graph_at, plain, statement, link_quads};
-ghost use Rattle.hydra_controls.specs.TermTexts.{AreTerms, IsTerm, iri_spaced, is_plain_byte, quad_of, term_of};
+ghost use Rattle.hydra_controls.specs.LineTexts.{text_of};
+ghost use Rattle.hydra_controls.specs.TermTexts.{AreTerms, IsTerm, is_plain_byte, quad_of, term_of};
 ghost use Rattle.hydra_controls.specs.Facts.{AreFacts, addresses_of, closing_of, counts_of, form_of, links_of, mapping_of, mappings_of, mark_of, page_text, quads_of, topic_of, version_of};
 
 use crate::quad_text::QuadText;
 use crate::term_text::{
     TermKind, TermText, blank, count, digits, foaf, hydra, iri, owl, plain, rdf, void,
 };
+use crate::text_parts::TextParts;
 use rdf_terms::Term;
 
 /// What the metadata of a page speak of: the texts of the base and of the address of page 1, whether
@@ -45,6 +47,21 @@ fn one_if(there: bool) -> usize
 impl<'a> PageFacts<'a> {
     // ---- terms
 
+    /// The address of a page, and a text behind it.
+    pub(crate) fn page_then(self, number: u64, end: &'a str) -> TextParts<'a>
+        ensures { text_of result ≡ page_text self.entry.first.now self.entry.fixed number ++ end.now }
+    {
+        if number == 1 {
+            return TextParts::new(self.first, end);
+        }
+        TextParts {
+            front: self.first,
+            middle: page_mark(self.fixed),
+            number: Some(number),
+            end,
+        }
+    }
+
     /// The address of a page with a fragment identifier behind it, as an IRI (RFC 3986, section 3.5).
     fn section(self, number: u64, name: &'a str) -> TermText<'a>
         requires facts { AreFacts self }
@@ -52,16 +69,9 @@ impl<'a> PageFacts<'a> {
         ensures term { term_of result ≡ Term.Iri (page_text self.entry.first.now self.entry.fixed number ++ name.now) }
         ensures text { IsTerm result }
     {
-        if number == 1 {
-            return iri(self.first, name);
-        }
         TermText {
             kind: TermKind::Iri,
-            front: self.first,
-            middle: page_mark(self.fixed),
-            number: Some(number),
-            end: name,
-            whole: "",
+            text: self.page_then(number, name),
         }
     }
 
@@ -103,7 +113,8 @@ impl<'a> PageFacts<'a> {
         requires subject { IsTerm subject }
         requires predicate { IsTerm predicate }
         requires object { IsTerm object }
-        ensures quad { quad_of result ≡ statement (graph_at (addresses_of self.entry)) (term_of subject.entry) (term_of predicate.entry) (term_of object.entry) }
+        ensures quad { quad_of result ≡ statement (graph_at (addresses_of self.entry))
+            (term_of subject.entry) (term_of predicate.entry) (term_of object.entry) }
         ensures terms { AreTerms result }
     {
         QuadText {
@@ -127,24 +138,12 @@ impl<'a> PageFacts<'a> {
         let this = self.page(self.number);
         if i == 0 {
             let graph = self.section(self.number, "#metadata");
-            return self.says(
-                graph,
-                foaf("primaryTopic", "<http://xmlns.com/foaf/0.1/primaryTopic> "),
-                this,
-            );
+            return self.says(graph, foaf("primaryTopic"), this);
         }
         if i == 1 {
-            return self.says(
-                self.data_set(),
-                void("subset", "<http://rdfs.org/ns/void#subset> "),
-                self.page(1),
-            );
+            return self.says(self.data_set(), void("subset"), self.page(1));
         }
-        self.says(
-            self.data_set(),
-            hydra("search", "<http://www.w3.org/ns/hydra/core#search> "),
-            blank("form"),
-        )
+        self.says(self.data_set(), hydra("search"), blank("form"))
     }
 
     /// The form's template, and that its values are explicit forms.
@@ -157,24 +156,10 @@ impl<'a> PageFacts<'a> {
     {
         let form = blank("form");
         if i == 0 {
-            return self.says(
-                form,
-                hydra("template", "<http://www.w3.org/ns/hydra/core#template> "),
-                self.template(),
-            );
+            return self.says(form, hydra("template"), self.template());
         }
-        let explicit = hydra(
-            "ExplicitRepresentation",
-            "<http://www.w3.org/ns/hydra/core#ExplicitRepresentation> ",
-        );
-        self.says(
-            form,
-            hydra(
-                "variableRepresentation",
-                "<http://www.w3.org/ns/hydra/core#variableRepresentation> ",
-            ),
-            explicit,
-        )
+        let explicit = hydra("ExplicitRepresentation");
+        self.says(form, hydra("variableRepresentation"), explicit)
     }
 
     /// That a variable of the form stands for the place of a triple with this name.
@@ -190,24 +175,12 @@ impl<'a> PageFacts<'a> {
     {
         let mapping = blank(label);
         if i == 0 {
-            return self.says(
-                blank("form"),
-                hydra("mapping", "<http://www.w3.org/ns/hydra/core#mapping> "),
-                mapping,
-            );
+            return self.says(blank("form"), hydra("mapping"), mapping);
         }
         if i == 1 {
-            return self.says(
-                mapping,
-                hydra("variable", "<http://www.w3.org/ns/hydra/core#variable> "),
-                plain("", name),
-            );
+            return self.says(mapping, hydra("variable"), plain("", name));
         }
-        self.says(
-            mapping,
-            hydra("property", "<http://www.w3.org/ns/hydra/core#property> "),
-            rdf(name),
-        )
+        self.says(mapping, hydra("property"), rdf(name))
     }
 
     /// For which places the variables of the form stand.
@@ -236,49 +209,26 @@ impl<'a> PageFacts<'a> {
     {
         let this = self.page(self.number);
         if i == 0 {
-            return self.says(
-                self.page(1),
-                void("subset", "<http://rdfs.org/ns/void#subset> "),
-                this,
-            );
+            return self.says(self.page(1), void("subset"), this);
         }
         if i == 1 {
-            return self.says(
-                this,
-                hydra(
-                    "totalItems",
-                    "<http://www.w3.org/ns/hydra/core#totalItems> ",
-                ),
-                count(self.count),
-            );
+            return self.says(this, hydra("totalItems"), count(self.count));
         }
         if i == 2 {
-            return self.says(
-                this,
-                void("triples", "<http://rdfs.org/ns/void#triples> "),
-                count(self.count),
-            );
+            return self.says(this, void("triples"), count(self.count));
         }
-        self.says(
-            this,
-            hydra("first", "<http://www.w3.org/ns/hydra/core#first> "),
-            self.page(1),
-        )
+        self.says(this, hydra("first"), self.page(1))
     }
 
     /// The link to another page.
-    fn link(self, name: &'a str, whole: &'a str, number: u64) -> QuadText<'a>
+    fn link(self, name: &'a str, number: u64) -> QuadText<'a>
         requires facts { AreFacts self }
         requires name { list_all is_iri_byte name.now ≡ true }
-        requires whole { whole.now ≡ iri_spaced (codes "http://www.w3.org/ns/hydra/core#" ++ name.now) }
-        ensures said { link_quads true (graph_at (addresses_of self.entry)) (addresses_of self.entry).page name.now (page_text self.entry.first.now self.entry.fixed number) ≡ quad_of result ∷ [] }
+        ensures said { link_quads true (graph_at (addresses_of self.entry)) (addresses_of self.entry).page name.now
+            (page_text self.entry.first.now self.entry.fixed number) ≡ quad_of result ∷ [] }
         ensures terms { AreTerms result }
     {
-        self.says(
-            self.page(self.number),
-            hydra(name, whole),
-            self.page(number),
-        )
+        self.says(self.page(self.number), hydra(name), self.page(number))
     }
 
     /// The version of the data set.
@@ -287,14 +237,7 @@ impl<'a> PageFacts<'a> {
         ensures said { version_of self.entry ≡ quad_of result ∷ [] }
         ensures terms { AreTerms result }
     {
-        self.says(
-            self.data_set(),
-            owl(
-                "versionInfo",
-                "<http://www.w3.org/2002/07/owl#versionInfo> ",
-            ),
-            digits(self.version),
-        )
+        self.says(self.data_set(), owl("versionInfo"), digits(self.version))
     }
 
     /// The link to the previous page, if there is one, and the version.
@@ -306,8 +249,7 @@ impl<'a> PageFacts<'a> {
     {
         if 1 < self.number {
             if i == 0 {
-                let whole = "<http://www.w3.org/ns/hydra/core#previous> ";
-                return self.link("previous", whole, self.number - 1);
+                return self.link("previous", self.number - 1);
             }
         }
         self.version()
@@ -322,8 +264,7 @@ impl<'a> PageFacts<'a> {
     {
         if self.number < self.last {
             if i == 0 {
-                let whole = "<http://www.w3.org/ns/hydra/core#next> ";
-                return self.link("next", whole, self.number + 1);
+                return self.link("next", self.number + 1);
             }
             return self.previous_and_version(i - 1);
         }

@@ -19,10 +19,13 @@ mod config;
 mod cut;
 mod facts;
 mod laws;
+mod line_table;
+mod line_text;
 mod lines;
 mod pages;
 mod quad_text;
 mod term_text;
+mod text_parts;
 mod whole;
 
 pub use config::Config;

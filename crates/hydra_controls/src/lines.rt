@@ -70,7 +70,8 @@ fn facts_of<'a>(
     count: u64,
     version: u64,
 ) -> PageFacts<'a>
-    ensures quads { quads_of result ≡ metadata_at base.now (addresses_by (address_text first.now) fixed number) (nat_lt number last) (nat_lt 1 number) count version }
+    ensures quads { quads_of result ≡ metadata_at base.now (addresses_by (address_text first.now) fixed number)
+        (nat_lt number last) (nat_lt 1 number) count version }
     ensures facts { AreFacts result }
 {
     PageFacts {
@@ -184,7 +185,7 @@ impl MetadataLines {
         ensures length { (d : Quad) → result ≡ length (canonical_line (slice_index_or self.now i d)) }
         ensures small { result < 2 ^ 70 }
     {
-        self.facts().quad(i).length()
+        self.facts().line(i).length()
     }
 
     /// Appends what is written of the line in this place, and tells whether bytes of the line are left.
@@ -197,12 +198,14 @@ impl MetadataLines {
         out: &mut Vec<u8>,
     ) -> Result<bool, OutOfMemory>
         requires { i < length self.now }
-        ensures ok { (d : Quad) → OnOk result (out.new.items ≡ out.old.items ++ take most (drop from (canonical_line (slice_index_or self.now i d)))) }
-        ensures more { (d : Quad) → IfOk result (λ more. more ≡ nat_lt most (length (canonical_line (slice_index_or self.now i d)) - from)) }
+        ensures ok { (d : Quad) → OnOk result
+            (out.new.items ≡ out.old.items ++ take most (drop from (canonical_line (slice_index_or self.now i d)))) }
+        ensures more { (d : Quad) → IfOk result
+            (λ more. more ≡ nat_lt most (length (canonical_line (slice_index_or self.now i d)) - from)) }
         ensures front { Begins out.old.items out.new.items }
     {
         let mut cut = Cut::new(from, most);
-        self.facts().quad(i).write(&mut cut, out)?;
+        self.facts().line(i).write(&mut cut, out)?;
         Ok(cut.more)
     }
 
@@ -218,8 +221,10 @@ impl MetadataLines {
         out: &mut Vec<u8>,
     ) -> Result<bool, OutOfMemory>
         requires { i < length self.now }
-        ensures ok { (d : Quad) → OnOk result (out.new.items ≡ out.old.items ++ take most (drop from (canonical_line (slice_index_or self.now i d)))) }
-        ensures more { (d : Quad) → IfOk result (λ more. more ≡ nat_lt most (length (canonical_line (slice_index_or self.now i d)) - from)) }
+        ensures ok { (d : Quad) → OnOk result
+            (out.new.items ≡ out.old.items ++ take most (drop from (canonical_line (slice_index_or self.now i d)))) }
+        ensures more { (d : Quad) → IfOk result
+            (λ more. more ≡ nat_lt most (length (canonical_line (slice_index_or self.now i d)) - from)) }
         ensures err { OnErr result (out.new.items ≡ out.old.items) }
     {
         let before = out.len();
@@ -231,7 +236,8 @@ impl MetadataLines {
     /// `OutOfMemory`, which comes only when memory ran out, `out` is as before.
     pub fn write(&self, i: usize, out: &mut Vec<u8>) -> Result<(), OutOfMemory>
         requires { i < length self.now }
-        ensures ok { (d : Quad) → OnOk result (out.new.items ≡ out.old.items ++ canonical_line (slice_index_or self.now i d)) }
+        ensures ok { (d : Quad) → OnOk result
+            (out.new.items ≡ out.old.items ++ canonical_line (slice_index_or self.now i d)) }
         ensures err { OnErr result (out.new.items ≡ out.old.items) }
     {
         let room = make_room(self.length(i), out)?;

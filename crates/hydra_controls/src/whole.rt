@@ -15,7 +15,7 @@ impl<'a> PageFacts<'a> {
     {
         let mut sum = 0;
         for i in 0..self.quad_count() {
-            sum += self.quad(i).length();
+            sum += self.line(i).length();
         }
         sum
     }
@@ -28,7 +28,7 @@ impl<'a> PageFacts<'a> {
         ensures front { Begins out.old.items out.new.items }
     {
         for i in place..self.quad_count() {
-            self.quad(i).append(out)?;
+            self.line(i).append(out)?;
         }
         Ok(())
     }

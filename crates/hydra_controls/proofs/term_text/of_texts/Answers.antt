@@ -1,11 +1,10 @@
-use Rattle.std.proofs.Common.{refl}
-use Rattle.hydra_controls.specs.TermTexts.{term_of}
-use Rattle.hydra_controls.proofs.TermLaws.{no_whole}
+use Rattle.std.proofs.Common.{List, ℕ, ap, subst, sym}
+use Rattle.hydra_controls.specs.TermTexts.{IsTextOf, term_as, term_of}
 use Rattle.hydra_controls.proofs.term_text.of_texts.Goals as goal
 
 pub returns-clause-term : goal.returns-clause-term
 unfolding term_of
-returns-clause-term c = refl
+returns-clause-term c = ap (term_as c.args.kind) c.new.ensures
 
 pub returns-clause-text : goal.returns-clause-text
-returns-clause-text c = record { text = c.requires; whole = no_whole _ }
+returns-clause-text c = record { text = subst (λ (l : List ℕ). IsTextOf c.args.kind l) (sym c.new.ensures) c.requires }
