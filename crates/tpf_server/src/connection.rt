@@ -21,7 +21,7 @@ use tpf_base::OutOfMemory;
 
 /// The most bytes of a buffer that a connection keeps while nothing is owed on it: a page of a hundred
 /// triples has its place there.
-const KEPT: usize = 16384;
+pub const KEPT: usize = 16384;
 
 /// One connection of a server: it takes the bytes that come and gives those of the response in
 /// parts, each of at most 16384 bytes: the head of an answer, lines of a body, or a part of a long line.
@@ -314,7 +314,9 @@ impl Connection {
         ensures full_ok { 65536 ≤ length self.old.pending → self.old.starved ≡ false → IsOk result }
         ensures idle { owes self.old ≡ false → OnOk result (self.new ≡ self.old) }
         ensures idle_ok { owes self.old ≡ false → IsOk result }
-        ensures answers { OnOk result ((history : List (List Triple)) (fed taken : List ℕ) (marks : List Mark) → Answers history server.now.config fed taken marks self.old → Answers history server.now.config fed taken marks self.new) }
+        ensures answers { OnOk result ((history : List (List Triple)) (fed taken : List ℕ) (marks : List Mark)
+            → Answers history server.now.config fed taken marks self.old
+            → Answers history server.now.config fed taken marks self.new) }
         ensures some { OnOk result (owes self.old ≡ true → 0 < length self.new.pending) }
         ensures few { length self.new.pending ≤ 81919 }
         ensures err { OnErr result (self.new ≡ starved_at self.old) }
@@ -334,7 +336,8 @@ impl Connection {
     pub fn owes(&self) -> bool
         ensures owes { result ≡ owes self.now }
         ensures nothing { result ≡ false → (config : Config) → owed_text config self.now ≡ [] }
-        ensures some { result ≡ true → self.now.starved ≡ false → (config : Config) → owed_text config self.now ≡ [] → ⊥ }
+        ensures some { result ≡ true → self.now.starved ≡ false
+            → (config : Config) → owed_text config self.now ≡ [] → ⊥ }
     {
         self.starved || self.debt.is_left()
     }
@@ -367,7 +370,9 @@ impl Connection {
     pub fn take(&mut self, n: usize)
         requires { n ≤ length self.old.pending }
         ensures rest { self.new ≡ record self.old { pending = drop n self.old.pending } }
-        ensures answers { (history : List (List Triple)) (config : Config) (fed taken : List ℕ) (marks : List Mark) → Answers history config fed taken marks self.old → Answers history config fed (taken ++ take n self.old.pending) marks self.new }
+        ensures answers { (history : List (List Triple)) (config : Config) (fed taken : List ℕ) (marks : List Mark)
+            → Answers history config fed taken marks self.old
+            → Answers history config fed (taken ++ take n self.old.pending) marks self.new }
     {
         self.given = compact(&mut self.bytes, self.given + n);
         if self.given == self.bytes.len() {

@@ -70,7 +70,7 @@ fn append_byte(b: u8, out: &mut Vec<u8>) -> Result<(), OutOfMemory>
 
 /// Appends a text.
 #[tactic(auto, using(list_laws::proofs::Begins::same_begins, list_laws::proofs::Begins::more_begins))]
-fn append(text: &str, out: &mut Vec<u8>) -> Result<(), OutOfMemory>
+pub fn append(text: &str, out: &mut Vec<u8>) -> Result<(), OutOfMemory>
     ensures ok { OnOk result (out.new.items ≡ out.old.items ++ text.now) }
     ensures front { Begins out.old.items out.new.items }
 {

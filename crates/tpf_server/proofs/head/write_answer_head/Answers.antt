@@ -2,8 +2,14 @@ use Rattle.std.proofs.Common.{◌≡◌, List, ℕ, ◌++◌, ◌∙◌, ap, sub
 use Rattle.std.specs.Prelude.{OnOk}
 use Rattle.http_wire.specs.Fields.{pairs_of}
 use Rattle.tpf_server.specs.Statuses.{media_of}
-use Rattle.tpf_server.proofs.HeadLaws.{head_is}
+use Rattle.tpf_server.proofs.HeadLaws.{head_is, page_head_is}
 use Rattle.tpf_server.proofs.head.write_answer_head.Goals as goal
+
+pub returns-then-is_page-clause-ok : goal.returns-then-is_page-clause-ok
+returns-then-is_page-clause-ok c =
+    let is = c.is_page.ensures c.if-is_page.true in
+    subst (λ (x : List ℕ). OnOk c.write_page_head.result (c.write_page_head.new.out.items ≡ c.args.out.now.items ++ x))
+    (page_head_is c.args.status c.args.media c.args.body_length c.args.closes is.0 is.1.0 is.1.1) c.write_page_head.ensures.ok
 
 pub returns-clause-ok : goal.returns-clause-ok
 returns-clause-ok c =
