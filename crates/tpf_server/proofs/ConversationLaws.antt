@@ -3,7 +3,8 @@ use Rattle.std.proofs.Common.{◌≡◌, ℕ, zero, suc, ◌+◌, ◌-◌, ◌<�
 use Rattle.std.specs.Prelude.{nat_lt, ◌||◌, ◌&&◌, not, bytes_eq, codes}
 use Rattle.std.specs.List.{concat}
 use Rattle.std.proofs.lemmas.List.{drop-drop, take-append-drop}
-use Rattle.std.proofs.lemmas.Bool.{or_cases, or_parts, true≢false}
+use Rattle.std.proofs.lemmas.Bool.{ltb-true, or_cases, or_parts, true≢false}
+use Rattle.std.proofs.lemmas.Slice.Zip.{AllZip-long}
 use Rattle.rdf_terms.specs.declared.term.Triple.{Triple}
 use Rattle.rdf_terms.specs.declared.term.Quad.{Quad}
 use Rattle.rdf_terms.specs.Canon.{canonical_line}
@@ -16,7 +17,6 @@ use Rattle.template_fill.specs.HttpAnswer.{Answer, answer_text, head_text}
 use Rattle.tpf_base.specs.Marks.{Mark, Served, version_at}
 use Rattle.template_fill.specs.Answers.{answer_to, is_reload, reload_answer, version_answer}
 use Rattle.template_fill.specs.Responses.{AreMarks, FitsHead, answering, answers, head_answer, reload_version, reload_versions}
-use Rattle.http_ends.proofs.Lists.{zip_length}
 use Rattle.http_ends.proofs.Growing.{answers_append}
 use Rattle.tpf_server.specs.declared.asked.Queued.{Queued}
 use Rattle.tpf_server.specs.declared.outcome.Reloaded.{Reloaded}
@@ -39,7 +39,7 @@ use Rattle.tpf_server.specs.Conversation.{Answers, AreServed, Conversation, Feed
 use Rattle.tpf_server.proofs.LineLengths.{line_length}
 use Rattle.tpf_server.proofs.Readings.{queue_more}
 use Rattle.tpf_server.proofs.StatusLaws.{body_some}
-use Rattle.tpf_server.proofs.RestLaws.{below_is, some_triples}
+use Rattle.tpf_server.proofs.RestLaws.{lines_some, some_triples}
 use Rattle.tpf_server.proofs.DebtLaws.{debt_done, long_head}
 use Rattle.tpf_server.proofs.HeadsLaws.{ended_on, left_heads, reads_on, reload_ends, reload_goes, stands_kept, waits_on}
 use Rattle.tpf_server.proofs.MarkLaws.{AreAt, are_served, marked_before, marks_behind, numbers_append, numbers_front, plain_none, served_at, served_marked}
@@ -112,7 +112,7 @@ module _ (history : List (List Triple)) (server : Serving) (bytes taken : List �
       ap₂ (λ (p o : List ℕ). taken ++ p ++ o) pending owed
       ∙ sym (append_assoc (taken ++ old.pending) (owed_text server.config old) (answers (answering history server.config) more (first ++ later)))
       ∙ ap (λ (l : List ℕ). l ++ answers (answering history server.config) more (first ++ later)) a.text
-      ∙ sym (answers_append (answering history server.config) a.heads more marks (first ++ later) (zip_length (FitsHead (answering history server.config)) a.heads marks a.marked.fits))
+      ∙ sym (answers_append (answering history server.config) a.heads more marks (first ++ later) (AllZip-long (FitsHead (answering history server.config)) a.heads marks a.marked.fits))
 
   further_numbers : (more : List Verdict) (later : List Mark) (answers_ : Answers history server.config bytes taken marks old) (all : List Mark) → all ≡ first ++ later
       → AreMarks (answering history server.config) (answers_.heads ++ more) (marks ++ all)
@@ -452,10 +452,6 @@ long_first x xs some = omega (arith, some, length-append x (concat xs))
 long_line : (q : Quad) → 0 < length (canonical_line q)
 long_line q = omega (arith, line_length q)
 
-long_quads : (quads : List Quad) → 0 < length quads → 0 < length (concat (quad_lines quads))
-long_quads [] some = absurd (omega arith)
-long_quads (q ∷ quads) some = long_first (canonical_line q) (quad_lines quads) (long_line q)
-
 long_triples : (triples : List Triple) → 0 < length triples → 0 < length (concat (triple_lines triples))
 long_triples [] some = absurd (omega arith)
 long_triples (t ∷ triples) some = long_first (triple_line t) (triple_lines triples) (long_line (in_default_graph t))
@@ -465,7 +461,7 @@ long_lines page part left =
     let sum = length-append (concat (triple_lines (triples_of page.table page.triples))) (concat (quad_lines page.quads)) in
     elim (or_cases (triples_left page.triples) (nat_lt 0 (length page.quads)) left) as (λ e. 0 < length (concat (triple_lines (triples_of page.table page.triples)) ++ concat (quad_lines page.quads))) [
       | inl h ↦ omega (arith, sum, long_triples (triples_of page.table page.triples) (some_triples page.table page.triples part h))
-      | inr h ↦ omega (arith, sum, long_quads page.quads (below_is 0 (length page.quads) h))
+      | inr h ↦ omega (arith, sum, lines_some page.quads (ltb-true 0 (length page.quads) h))
     ]
 
 long_page : (page : PageLines) → ArePart page.table page.triples → page_left page ≡ true → 0 < length (page_text page)
@@ -474,7 +470,7 @@ long_page page part left =
     let lines = concat (triple_lines (triples_of page.table page.triples)) ++ concat (quad_lines page.quads) in
     let sum = length-append page.begun lines in
     elim (or_cases (nat_lt 0 (length page.begun)) (lines_left page) left) as (λ e. 0 < length (page.begun ++ lines)) [
-      | inl h ↦ omega (arith, sum, below_is 0 (length page.begun) h)
+      | inl h ↦ omega (arith, sum, ltb-true 0 (length page.begun) h)
       | inr h ↦ omega (arith, sum, long_lines page part h)
     ]
 

@@ -3,7 +3,7 @@ use Rattle.std.proofs.Common.{◌≡◌, ℕ, ◌+◌, ◌-◌, ◌≤◌, ◌�
 use Rattle.std.specs.List.{AllByRecursion}
 use Rattle.std.proofs.lemmas.Bool.{true≢false}
 use Rattle.list_laws.specs.Begins.{Begins}
-use Rattle.http_ends.proofs.Lists.{all_append}
+use Rattle.list_laws.proofs.Each.{all_append}
 use Rattle.http_wire.specs.Requests.{Held, holding}
 use Rattle.template_fill.specs.Metadata.{Config}
 use Rattle.tpf_server.specs.declared.asked.Queued.{Queued}

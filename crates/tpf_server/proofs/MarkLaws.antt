@@ -4,7 +4,8 @@ use Rattle.std.specs.List.{AllByRecursion, AllZip}
 use Rattle.tpf_base.specs.HttpHeads.{Verdict}
 use Rattle.tpf_base.specs.Marks.{Mark, Served, version_at}
 use Rattle.template_fill.specs.Responses.{Answering, AreMarks, FitsHead, IsRising, IsVersion, asks_reload, reload_version, reload_versions}
-use Rattle.http_ends.proofs.Lists.{all_append, rising_append, zip_append}
+use Rattle.list_laws.proofs.Each.{all_append}
+use Rattle.http_ends.proofs.Lists.{rising_append, zip_append}
 use Rattle.tpf_server.specs.Read.{served_marks}
 use Rattle.tpf_server.specs.Conversation.{AreServed}
 

@@ -2,6 +2,7 @@
 use Rattle.std.proofs.Common.{◌≡◌, ℕ, zero, suc, ◌+◌, ◌-◌, ◌*◌, ◌<◌, ◌≤◌, min, if◌then◌else◌, Bool, true, false, List, [], ◌∷◌, ◌++◌, map, length, take, drop, refl, ap, ap₂, sym, subst, ◌∙◌, arith, append_assoc, append-nil, length-append, length-take, length-drop}
 use Rattle.std.specs.Prelude.{nat_lt}
 use Rattle.std.specs.List.{AllByRecursion, concat}
+use Rattle.std.proofs.lemmas.Bool.{ltb-false, ltb-true}
 use Rattle.std.proofs.lemmas.List.{drop-drop, map-append, length-map, take-append-drop}
 use Rattle.list_laws.proofs.Each.{all_append, all_back, all_front}
 use Rattle.rdf_terms.specs.declared.term.Term.{Term}
@@ -10,7 +11,7 @@ use Rattle.rdf_terms.specs.declared.term.Triple.{Triple}
 use Rattle.rdf_terms.specs.Canon.{after_mark, canonical_byte, canonical_form, canonical_kind, canonical_term, is_marked}
 use Rattle.hydra_controls.specs.declared.cut.Cut.{Cut}
 use Rattle.hydra_controls.specs.Cuts.{Cuts, cut_behind, cut_of}
-use Rattle.hydra_controls.proofs.CutLaws.{behind_all, behind_append, between, cut_append}
+use Rattle.hydra_controls.proofs.CutLaws.{behind_all, behind_append, between, cut_append, nothing_left}
 use Rattle.tpf_server.specs.Given.{IsGiven}
 use Rattle.tpf_server.specs.Lines.{triple_line}
 use Rattle.tpf_server.specs.Parts.{CutsMarks, ended_marks, form_marks, plain_marks, term_marks, triple_marks}
@@ -173,12 +174,6 @@ cuts_then a b d first second old mid new h k = record {
 pub cuts_same : (a b : Cut) (marks other : List (List ℕ)) (old new : List ℕ) → marks ≡ other → CutsMarks a b marks old new → CutsMarks a b other old new
 cuts_same a b marks other old new same h = subst (λ (m : List (List ℕ)). CutsMarks a b m old new) same h
 
-nothing_left : {A : Type 0} (room skip : ℕ) → take {A = A} room (drop {A = A} skip []) ≡ []
-nothing_left zero zero = refl
-nothing_left zero (suc skip) = refl
-nothing_left (suc room) zero = refl
-nothing_left (suc room) (suc skip) = refl
-
 -- nothing
 pub cuts_nothing : (a : Cut) (old : List ℕ) → CutsMarks a a [] old old
 cuts_nothing a old = record {
@@ -205,12 +200,6 @@ first_cut from a b marks old new is h =
     (ap (λ (x : Cut). x.more) own.behind, own.appended)
 
 -- ---- a part
-
-below_is : (a b : ℕ) → nat_lt a b ≡ true → a < b
-below_is a b h = grind (arith, h)
-
-not_below : (a b : ℕ) → nat_lt a b ≡ false → b ≤ a
-not_below a b h = grind (arith, h)
 
 all_taken : {A : Type 0} (n : ℕ) (xs : List A) → length xs ≤ n → take n xs ≡ xs
 all_taken zero [] h = refl
@@ -247,7 +236,7 @@ pub marks_end : (from : ℕ) (marks : List (List ℕ)) (old new : List ℕ) → 
 marks_end from marks old new are some last appended = record {
   part = concat (take 8192 (drop from marks));
   text =
-      ap concat (sym (all_taken 8192 (drop from marks) (omega (arith, not_below 8192 (length marks - from) last, length-drop from marks))))
+      ap concat (sym (all_taken 8192 (drop from marks) (omega (arith, ltb-false 8192 (length marks - from) last, length-drop from marks))))
       ∙ sym (append-nil (concat (take 8192 (drop from marks))));
   appended = appended;
   some = (part_size from marks are some).0;
@@ -280,7 +269,7 @@ pub line_ends : (from : ℕ) (line old new : List ℕ) → from < length line �
 line_ends from line old new some last appended = record {
   part = take 8192 (drop from line);
   text =
-      sym (all_taken 8192 (drop from line) (omega (arith, not_below 8192 (length line - from) last, length-drop from line)))
+      sym (all_taken 8192 (drop from line) (omega (arith, ltb-false 8192 (length line - from) last, length-drop from line)))
       ∙ sym (append-nil (take 8192 (drop from line)));
   appended = appended;
   some = omega (arith, some, length-take 8192 (drop from line), length-drop from line);
@@ -289,7 +278,7 @@ line_ends from line old new some last appended = record {
 
 -- the next place is within the line
 pub within_on : (from n : ℕ) → nat_lt 8192 (n - from) ≡ true → from + 8192 < n
-within_on from n more = omega (arith, below_is 8192 (n - from) more)
+within_on from n more = omega (arith, ltb-true 8192 (n - from) more)
 
 -- the three terms of a line
 pub triple_cuts : (from : ℕ) (a b d e : Cut) (t : Triple) (s p o : Term) (old first second new : List ℕ) → a ≡ record { skip = from; room = 8192; more = false } → s ≡ t.subject → p ≡ t.predicate → o ≡ t.object

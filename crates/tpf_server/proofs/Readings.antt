@@ -13,7 +13,7 @@ use Rattle.tpf_base.specs.HttpConnection.{Heads, heads_of, last_head, with_head}
 use Rattle.template_fill.specs.Metadata.{Config}
 use Rattle.tpf_base.specs.Marks.{Served}
 use Rattle.template_fill.specs.Responses.{Answering, answering, answers, asks_reload, head_answer}
-use Rattle.http_ends.proofs.Lists.{all_append}
+use Rattle.list_laws.proofs.Each.{all_append}
 use Rattle.tpf_server.specs.declared.asked.Queued.{Queued}
 use Rattle.tpf_server.specs.declared.outcome.Reloaded.{Reloaded}
 use Rattle.tpf_server.specs.declared.reading.Reading.{Reading}

@@ -1,10 +1,9 @@
 -- What is left of a body.
 use Rattle.std.proofs.Common.{◌≡◌, ℕ, zero, suc, ◌+◌, ◌-◌, ◌<◌, ◌≤◌, Bool, true, false, List, [], ◌∷◌, ◌++◌, map, length, take, drop, refl, ap, ap₂, sym, subst, ◌∙◌, arith, append_assoc, append-nil, Vec, Global, length-append, length-drop}
-use Rattle.std.specs.Prelude.{slice_index_or, nat_le, nat_lt, ◌||◌}
+use Rattle.std.specs.Prelude.{slice_index_or, nat_lt, ◌||◌}
 use Rattle.std.specs.List.{concat}
 use Rattle.std.proofs.lemmas.List.{drop_all, length-map}
-use Rattle.std.proofs.lemmas.Bool.{ltb-false, or_parts, true≢false}
-use Rattle.std.proofs.lemmas.Bool.Decides.{nat_tests}
+use Rattle.std.proofs.lemmas.Bool.{le-ltb, lt-ltb, ltb-false, ltb-true, or_parts, true≢false}
 use Rattle.rdf_terms.specs.declared.term.Triple.{Triple}
 use Rattle.rdf_terms.specs.declared.term.Quad.{Quad}
 use Rattle.rdf_terms.specs.declared.term.Term.TheVariants.{Iri}
@@ -81,9 +80,6 @@ part_passed s range part some =
 
 -- ---- the triples of a page
 
-pub below_is : (a b : ℕ) → nat_lt a b ≡ true → a < b
-below_is a b h = grind (arith, h)
-
 part_first : (s : Stored) (range : Range) (ids : IdTriple) → range.from < range.to → IsPart s range → ((d : Triple) → slice_index_or (listed s range) 0 d ≡ triple_at (held_terms s) ids)
     → listed s range ≡ triple_at (held_terms s) ids ∷ listed s (passed range)
 part_first s range ids some part is =
@@ -94,7 +90,7 @@ pub part_passes : (s : Stored) (triples : PageTriples) (range : Range) (ids : Id
     → ((d : Triple) → slice_index_or (listed s range) 0 d ≡ triple_at (held_terms s) ids) → triples_of s triples ≡ triple_at (held_terms s) ids ∷ triples_of s (Part (passed range))
 part_passes s triples range ids is part left first =
     ap (triples_of s) is
-    ∙ part_first s range ids (below_is range.from range.to (subst (λ (x : PageTriples). triples_left x ≡ true) is left)) (subst (ArePart s) is part) first
+    ∙ part_first s range ids (ltb-true range.from range.to (subst (λ (x : PageTriples). triples_left x ≡ true) is left)) (subst (ArePart s) is part) first
 
 pub ids_first : (s : Stored) (ids : List IdTriple) (next : ℕ) (d : IdTriple) → next < length ids
     → map (triple_at (held_terms s)) (drop next ids) ≡ triple_at (held_terms s) (slice_index_or ids next d) ∷ map (triple_at (held_terms s)) (drop (next + 1) ids)
@@ -106,7 +102,7 @@ pub part_is_first : (s : Stored) (triples : PageTriples) (range : Range) (ids : 
     → ((d : Triple) → slice_index_or (listed s range) 0 d ≡ triple_at (held_terms s) ids) → IsFirst s triples ids (after_first triples)
 part_is_first s triples range ids is part left valid first =
     let own : IsPart s range = subst (ArePart s) is part in
-    let some : range.from < range.to = below_is range.from range.to (subst (λ (x : PageTriples). triples_left x ≡ true) is left) in
+    let some : range.from < range.to = ltb-true range.from range.to (subst (λ (x : PageTriples). triples_left x ≡ true) is left) in
     record {
       held = valid;
       first = part_passes s triples range ids is part left first ∙ ap (λ (t : PageTriples). triple_at (held_terms s) ids ∷ triples_of s (after_first t)) (sym is);
@@ -116,7 +112,7 @@ part_is_first s triples range ids is part left valid first =
 pub listed_first : (s : Stored) (triples : PageTriples) (list : Vec IdTriple Global) (next : ℕ) (ids : IdTriple) → triples ≡ Listed list next → ArePart s triples → triples_left triples ≡ true
     → ((d : IdTriple) → ids ≡ slice_index_or list.items next d) → IsIdTriple (held_terms s) ids → IsFirst s triples ids (after_first triples)
 listed_first s triples list next ids is part left at valid =
-    let within : next < length list.items = below_is next (length list.items) (subst (λ (x : PageTriples). triples_left x ≡ true) is left) in
+    let within : next < length list.items = ltb-true next (length list.items) (subst (λ (x : PageTriples). triples_left x ≡ true) is left) in
     record {
       held = valid;
       first =
@@ -129,9 +125,9 @@ listed_first s triples list next ids is part left at valid =
 
 -- of triples that are left there is one, and of others none
 pub some_triples : (s : Stored) (triples : PageTriples) → ArePart s triples → triples_left triples ≡ true → 0 < length (triples_of s triples)
-some_triples s (Part range) part left = omega (arith, part.lists, below_is range.from range.to left)
+some_triples s (Part range) part left = omega (arith, part.lists, ltb-true range.from range.to left)
 some_triples s (Listed ids next) part left =
-    omega (arith, below_is next (length ids.items) left, length-map (drop next ids.items) (triple_at (held_terms s)), length-drop next ids.items)
+    omega (arith, ltb-true next (length ids.items) left, length-map (drop next ids.items) (triple_at (held_terms s)), length-drop next ids.items)
 
 pub no_triples : (s : Stored) (triples : PageTriples) → triples_left triples ≡ false → triples_of s triples ≡ []
 no_triples s (Part range) none = none_listed s range (ltb-false range.from range.to none)
@@ -139,9 +135,6 @@ no_triples s (Listed ids next) none =
     ap (λ (l : List IdTriple). map (triple_at (held_terms s)) l) (drop_all next ids.items (ltb-false next (length ids.items) none))
 
 -- ---- the line that was begun
-
-is_below : (a b : ℕ) → a < b → nat_lt a b ≡ true
-is_below a b h = grind (arith, nat_tests)
 
 long_triple : (t : Triple) (from : ℕ) → from < length (triple_marks t) → 0 < length (concat (drop from (triple_marks t)))
 long_triple t from some =
@@ -166,12 +159,12 @@ module _ (s : Stored) (quads : List Quad) (b : Begun) (triples : PageTriples) (i
 
   pub triple_begun : (ids : IdTriple) (from : ℕ) → b ≡ begins.Triple ids from → IsBegun s quads b → true ≡ nat_lt 0 (length p.begun)
   triple_begun ids from is fits =
-      sym (is_below 0 (length (begun_text s quads (begins.Triple ids from))) (begun_long s quads ids from (subst (IsBegun s quads) is fits)))
+      sym (lt-ltb 0 (length (begun_text s quads (begins.Triple ids from))) (begun_long s quads ids from (subst (IsBegun s quads) is fits)))
       ∙ ap (λ (x : Begun). nat_lt 0 (length (begun_text s quads x))) (sym is) ∙ ap (λ (x : PageLines). nat_lt 0 (length x.begun)) same
 
   pub line_begun : (place from : ℕ) → b ≡ begins.Line place from → IsBegun s quads b → true ≡ nat_lt 0 (length p.begun)
   line_begun place from is fits =
-      sym (is_below 0 (length (begun_text s quads (begins.Line place from))) (line_long s quads place from (subst (IsBegun s quads) is fits)))
+      sym (lt-ltb 0 (length (begun_text s quads (begins.Line place from))) (line_long s quads place from (subst (IsBegun s quads) is fits)))
       ∙ ap (λ (x : Begun). nat_lt 0 (length (begun_text s quads x))) (sym is) ∙ ap (λ (x : PageLines). nat_lt 0 (length x.begun)) same
 
   pub not_none : b ≡ begins.Nothing → nat_lt 0 (length p.begun) ≡ true → ⊥
@@ -221,13 +214,13 @@ pub first_triple : (s : Stored) (quads : List Quad) (ids : IdTriple) → IsIdTri
 first_triple s quads ids is = (is, triple_some (triple_at (held_terms s) ids))
 
 pub first_triple_long : (s : Stored) (quads : List Quad) (ids : IdTriple) → IsIdTriple (held_terms s) ids → nat_lt 0 (length (begun_text s quads (begins.Triple ids 0))) ≡ true
-first_triple_long s quads ids is = is_below 0 (length (begun_text s quads (begins.Triple ids 0))) (begun_long s quads ids 0 (first_triple s quads ids is))
+first_triple_long s quads ids is = lt-ltb 0 (length (begun_text s quads (begins.Triple ids 0))) (begun_long s quads ids 0 (first_triple s quads ids is))
 
 pub first_line : (s : Stored) (quads : List Quad) (place : ℕ) → place < length quads → IsBegun s quads (begins.Line place 0)
 first_line s quads place within = (within, omega (arith, line_length (slice_index_or quads place some_quad)))
 
 pub first_line_long : (s : Stored) (quads : List Quad) (place : ℕ) → place < length quads → nat_lt 0 (length (begun_text s quads (begins.Line place 0))) ≡ true
-first_line_long s quads place within = is_below 0 (length (begun_text s quads (begins.Line place 0))) (line_long s quads place 0 (first_line s quads place within))
+first_line_long s quads place within = lt-ltb 0 (length (begun_text s quads (begins.Line place 0))) (line_long s quads place 0 (first_line s quads place within))
 
 pub triple_stands : (s : Stored) (old new : PageTriples) (all quads : List Quad) (t : List ℕ) (ids : IdTriple) (p : PageLines) → record { begun = t; table = s; triples = old; quads = quads } ≡ p
     → p.begun ≡ [] → triples_of s old ≡ triple_at (held_terms s) ids ∷ triples_of s new
@@ -297,16 +290,12 @@ page_done page h =
     ap (λ (l : List ℕ). l ++ (concat (triple_lines (triples_of page.table page.triples)) ++ concat (quad_lines page.quads))) (no_bytes page.begun none.0)
     ∙ ap₂ (λ (l : List Triple) (quads : List Quad). concat (triple_lines l) ++ concat (quad_lines quads)) (no_triples page.table page.triples p.0) (no_quads page.quads p.1)
 
-below_none : (i : ℕ) → nat_lt i 0 ≡ false
-below_none i = grind arith
-
-below_suc : (i n : ℕ) → nat_lt (suc i) (suc n) ≡ nat_lt i n
-below_suc i n = grind arith
-
 left_is : (quads : List Quad) (i : ℕ) → nat_lt i (length quads) ≡ nat_lt 0 (length (drop i quads))
 left_is quads zero = refl
-left_is [] (suc i) = below_none (suc i)
-left_is (q ∷ quads) (suc i) = below_suc i (length quads) ∙ left_is quads i
+left_is [] (suc i) = le-ltb (suc i) 0 (omega arith)
+left_is (q ∷ quads) (suc i) =
+    let shorter : nat_lt (suc i) (suc (length quads)) ≡ nat_lt i (length quads) = grind arith in
+    shorter ∙ left_is quads i
 
 pub quads_are : (s : Stored) (triples : PageTriples) (quads : List Quad) (i n : ℕ) (t : List ℕ) (p : PageLines) → record { begun = t; table = s; triples = triples; quads = drop i quads } ≡ p → n ≡ length quads → nat_lt i n ≡ nat_lt 0 (length p.quads)
 quads_are s triples quads i n t p same size = ap (nat_lt i) size ∙ left_is quads i ∙ ap (λ (x : PageLines). nat_lt 0 (length x.quads)) same
@@ -384,9 +373,6 @@ more_lines s held quads b triples new i p same of is room before after more =
       few = own.few;
     }
 
-pub fits_is : (n most : ℕ) → nat_le n most ≡ true → n ≤ most
-fits_is n most h = grind (arith, h)
-
 pub short_metadata_is : (s : Stored) (quads : List Quad) (b : Begun) (triples : PageTriples) (i n : ℕ) (p : PageLines) → lines_at s quads b triples i ≡ p → i ≡ 0 → nat_lt 0 (length p.begun) ≡ false → triples_left p.triples ≡ false
     → n ≡ length (concat (quad_lines quads)) → n ≤ 16384 → IsShortMetadata p
 short_metadata_is s quads b triples i n p same first none past size fits = record {
@@ -395,7 +381,7 @@ short_metadata_is s quads b triples i n p same first none past size fits = recor
   few = subst (λ (x : PageLines). length (concat (quad_lines x.quads)) ≤ 16384) same (subst (λ (k : ℕ). length (concat (quad_lines (drop k quads))) ≤ 16384) (sym first) (omega (arith, size, fits)));
 }
 
-lines_some : (quads : List Quad) → 0 < length quads → 0 < length (concat (quad_lines quads))
+pub lines_some : (quads : List Quad) → 0 < length quads → 0 < length (concat (quad_lines quads))
 lines_some [] h = absurd (omega arith)
 lines_some (q ∷ quads) h = omega (arith, line_length q, length-append (canonical_line q) (concat (quad_lines quads)))
 

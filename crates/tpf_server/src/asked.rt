@@ -52,7 +52,8 @@ fn asked_by_number(
     requires number { page_in found.page ≡ Some page }
     requires some { 1 ≤ page }
     ensures asked { IfOk result IsAsked }
-    ensures answer { IfOk result (λ asking. answer_of server.now.config asking ≡ answer_at server.now (question_in found)) }
+    ensures answer { IfOk result
+        (λ asking. answer_of server.now.config asking ≡ answer_at server.now (question_in found)) }
 {
     let Some(slots) = slots(alloc, &found)? else {
         return Ok(Asking::Refused(Status::BadRequest));
@@ -81,7 +82,8 @@ fn are_given(slots: Option<Slots>, rows: &RowValues) -> bool
 fn asked_beyond(alloc: Global, server: &Server, found: &Parameters) -> Result<Asking, OutOfMemory>
     requires { (n : ℕ) × ((page_in found.now.page ≡ Some n) × (2 ^ 64 ≤ n)) }
     ensures asked { IfOk result IsAsked }
-    ensures answer { IfOk result (λ asking. answer_of server.now.config asking ≡ answer_at server.now (question_in found.now)) }
+    ensures answer { IfOk result
+        (λ asking. answer_of server.now.config asking ≡ answer_at server.now (question_in found.now)) }
 {
     let _triples = server.table().len();
     let _size = server.config().page_size();
@@ -101,7 +103,8 @@ fn asked_by_parameters(
     found: Parameters,
 ) -> Result<Asking, OutOfMemory>
     ensures asked { IfOk result IsAsked }
-    ensures answer { IfOk result (λ asking. answer_of server.now.config asking ≡ answer_at server.now (question_in found)) }
+    ensures answer { IfOk result
+        (λ asking. answer_of server.now.config asking ≡ answer_at server.now (question_in found)) }
 {
     match page(&found.page) {
         PageNumber::Number(page) => asked_by_number(alloc, server, found, page),
@@ -133,7 +136,8 @@ fn query_after(target: &[u8], path: usize) -> &[u8]
 #[tactic(auto, using(crate::proofs::AskedLaws::other_path, crate::proofs::AskedLaws::base_path))]
 fn asked_by_target(alloc: Global, server: &Server, target: &[u8]) -> Result<Asking, OutOfMemory>
     ensures asked { IfOk result IsAsked }
-    ensures answer { IfOk result (λ asking. answer_of server.now.config asking ≡ answer_for_target server.now target.now) }
+    ensures answer { IfOk result
+        (λ asking. answer_of server.now.config asking ≡ answer_for_target server.now target.now) }
 {
     let path = path_length(target);
     if !is_base(server, &target[..path]) {
@@ -153,7 +157,8 @@ fn asked_for(
     target: &[u8],
 ) -> Result<Asking, OutOfMemory>
     ensures asked { IfOk result IsAsked }
-    ensures answer { IfOk result (λ asking. answer_of server.now.config asking ≡ answer_for server.now method target.now) }
+    ensures answer { IfOk result
+        (λ asking. answer_of server.now.config asking ≡ answer_for server.now method target.now) }
 {
     match method {
         Asked::Other => Ok(Asking::Refused(Status::MethodNotAllowed)),
@@ -172,7 +177,8 @@ fn is_reload_target(server: &Server, target: &[u8]) -> bool
 
 /// Whether a request asks for a reload.
 pub fn asks_reload(server: &Server, head: &RequestHead) -> bool
-    ensures { result ≡ (is_other head.now.method && is_path_of_reload server.now.config.reload (path_of head.now.target)) }
+    ensures { result ≡ (is_other head.now.method
+        && is_path_of_reload server.now.config.reload (path_of head.now.target)) }
 {
     match head.method {
         Asked::Get => false,
@@ -184,7 +190,8 @@ pub fn asks_reload(server: &Server, head: &RequestHead) -> bool
 /// What a request asks for that asks for no reload.
 pub fn asked_by(alloc: Global, server: &Server, head: &RequestHead) -> Result<Queued, OutOfMemory>
     ensures asked { IfOk result (λ queued. IsAsked queued.asking) }
-    ensures answer { IfOk result (λ queued. answer_of server.now.config queued.asking ≡ answer_for server.now head.now.method head.now.target) }
+    ensures answer { IfOk result (λ queued.
+        answer_of server.now.config queued.asking ≡ answer_for server.now head.now.method head.now.target) }
     ensures body { IfOk result (λ queued. queued.without_body ≡ is_head head.now.method) }
     ensures closes { IfOk result (λ queued. queued.closes ≡ head.now.closes) }
 {

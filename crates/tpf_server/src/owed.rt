@@ -64,7 +64,8 @@ fn begin(
     out: &mut Vec<u8>,
 ) -> Result<Rest, OutOfMemory>
     requires { IsAsked queued.now.asking }
-    ensures ok { IfOk result (λ rest. IsGiven (queued_text config.now queued.now) (rest_text rest) out.old.items out.new.items) }
+    ensures ok { IfOk result
+        (λ rest. IsGiven (queued_text config.now queued.now) (rest_text rest) out.old.items out.new.items) }
     ensures range { IfOk result IsWithin }
     ensures front { Begins out.old.items out.new.items }
 {
@@ -136,7 +137,8 @@ impl Debt {
     ) -> Result<HeadRead, OutOfMemory>
         requires { requests.old.refused ≡ None }
         ensures rest { self.new.rest ≡ self.old.rest }
-        ensures ok { IfOk result (λ read. ReadsHead server.now requests.old self.old.waiting.items self.new.waiting.items read requests.new) }
+        ensures ok { IfOk result (λ read.
+            ReadsHead server.now requests.old self.old.waiting.items self.new.waiting.items read requests.new) }
     {
         match requests.next()? {
             NextHead::More => Ok(HeadRead::Nothing),
@@ -158,7 +160,8 @@ impl Debt {
     ) -> Result<Reading, OutOfMemory>
         requires { requests.old.refused ≡ None }
         ensures rest { self.new.rest ≡ self.old.rest }
-        ensures ok { IfOk result (λ reading. ReadsHeads server.now requests.old.bytes self.old.waiting.items self.new.waiting.items reading requests.new) }
+        ensures ok { IfOk result (λ reading. ReadsHeads server.now requests.old.bytes
+            self.old.waiting.items self.new.waiting.items reading requests.new) }
     {
         loop {
             match self.read_head(alloc, server, requests)? {
@@ -182,7 +185,8 @@ impl Debt {
     ) -> Result<Reading, OutOfMemory>
         requires { requests.old.refused ≡ None }
         ensures rest { self.new.rest ≡ self.old.rest }
-        ensures ok { IfOk result (λ reading. ReadsOn server.now outcome closes requests.old.bytes self.old.waiting.items self.new.waiting.items reading requests.new) }
+        ensures ok { IfOk result (λ reading. ReadsOn server.now outcome closes requests.old.bytes
+            self.old.waiting.items self.new.waiting.items reading requests.new) }
     {
         self.waiting.push_back(reload_answer(outcome, closes))?;
         if closes {
@@ -195,7 +199,8 @@ impl Debt {
     fn give(&mut self, alloc: Global, config: &Config, out: &mut Vec<u8>) -> Result<(), OutOfMemory>
         requires fits { Fits self.old.rest self.old.waiting.items }
         requires left { debt_left self.old.rest self.old.waiting.items ≡ true }
-        ensures ok { OnOk result (IsGiven (debt_text config.now self.old.rest self.old.waiting.items) (debt_text config.now self.new.rest self.new.waiting.items) out.old.items out.new.items) }
+        ensures ok { OnOk result (IsGiven (debt_text config.now self.old.rest self.old.waiting.items)
+            (debt_text config.now self.new.rest self.new.waiting.items) out.old.items out.new.items) }
         ensures fits { OnOk result (Fits self.new.rest self.new.waiting.items) }
         ensures front { Begins out.old.items out.new.items }
     {
@@ -221,8 +226,10 @@ impl Debt {
     ) -> Result<(), OutOfMemory>
         requires fits { Fits self.old.rest self.old.waiting.items }
         requires given { given ≤ length out.old.items }
-        ensures ok { OnOk result (Fills (debt_text config.now self.old.rest self.old.waiting.items) (debt_text config.now self.new.rest self.new.waiting.items) given out.old.items out.new.items) }
-        ensures enough { OnOk result ((65536 ≤ length out.new.items - given) ⊎ (debt_left self.new.rest self.new.waiting.items ≡ false)) }
+        ensures ok { OnOk result (Fills (debt_text config.now self.old.rest self.old.waiting.items)
+            (debt_text config.now self.new.rest self.new.waiting.items) given out.old.items out.new.items) }
+        ensures enough { OnOk result ((65536 ≤ length out.new.items - given)
+            ⊎ (debt_left self.new.rest self.new.waiting.items ≡ false)) }
         ensures fits { OnOk result (Fits self.new.rest self.new.waiting.items) }
         ensures front { Begins out.old.items out.new.items }
     {
@@ -245,8 +252,10 @@ impl Debt {
     ) -> Result<(), OutOfMemory>
         requires fits { Fits self.old.rest self.old.waiting.items }
         requires given { given ≤ length out.old.items }
-        ensures ok { OnOk result (Fills (debt_text config.now self.old.rest self.old.waiting.items) (debt_text config.now self.new.rest self.new.waiting.items) given out.old.items out.new.items) }
-        ensures enough { OnOk result ((65536 ≤ length out.new.items - given) ⊎ (debt_left self.new.rest self.new.waiting.items ≡ false)) }
+        ensures ok { OnOk result (Fills (debt_text config.now self.old.rest self.old.waiting.items)
+            (debt_text config.now self.new.rest self.new.waiting.items) given out.old.items out.new.items) }
+        ensures enough { OnOk result ((65536 ≤ length out.new.items - given)
+            ⊎ (debt_left self.new.rest self.new.waiting.items ≡ false)) }
         ensures fits { OnOk result (Fits self.new.rest self.new.waiting.items) }
         ensures front { Begins out.old.items out.new.items }
         ensures few { length out.old.items - given ≤ 81919 → length out.new.items - given ≤ 81919 }

@@ -49,7 +49,8 @@ fn counted_page<L: Ledger>(
     requires name { blank.name ≡ L.name }
     requires parts { blank.parts ≡ L.parts }
     requires some { 0 < blank.parts }
-    ensures { MatchOption result (IsPageNumber table.now slots.now number size → ⊥) (λ view. IsPageNumber table.now slots.now number size × IsPage table.now slots.now number size view) }
+    ensures { MatchOption result (IsPageNumber table.now slots.now number size → ⊥) (λ view.
+        IsPageNumber table.now slots.now number size × IsPage table.now slots.now number size view) }
 {
     let mut steps: Steps<L> = Steps::new(blank);
     page(table, slots, number, size, &mut steps)
@@ -58,7 +59,8 @@ fn counted_page<L: Ledger>(
 /// A page of the table, or `None` where the number is past the last.
 fn page_view(table: &Table, slots: &Slots, number: u64, size: u64) -> Option<PageView>
     requires { 1 ≤ size }
-    ensures { MatchOption result (IsPageNumber table.now slots.now number size → ⊥) (λ view. IsPageNumber table.now slots.now number size × IsPage table.now slots.now number size view) }
+    ensures { MatchOption result (IsPageNumber table.now slots.now number size → ⊥) (λ view.
+        IsPageNumber table.now slots.now number size × IsPage table.now slots.now number size view) }
 {
     counted_page::<Brand>(table, slots, number, size, Blank::new(1))
 }
@@ -254,7 +256,12 @@ fn open_selected(
 
 /// The answer of a status without a page.
 fn open_status(status: Status) -> Opened
-    ensures { result ≡ record { status = status; media = MediaType.PlainText; length = length (body_text status); body = Rest.Line status } }
+    ensures { result ≡ record {
+      status = status;
+      media = MediaType.PlainText;
+      length = length (body_text status);
+      body = Rest.Line status;
+    } }
 {
     Opened {
         status,
@@ -280,7 +287,12 @@ fn version_text(alloc: Global, number: u64) -> Result<Text, OutOfMemory>
 #[tactic(auto, using(crate::proofs::OpenLaws::short_version))]
 fn open_version(alloc: Global, number: u64) -> Result<Opened, OutOfMemory>
     ensures few { length (version_line number) ≤ 16384 }
-    ensures opened { IfOk result (λ o. o ≡ record { status = Status.Success; media = MediaType.PlainText; length = length (version_line number); body = Rest.Words (version_line number) }) }
+    ensures opened { IfOk result (λ o. o ≡ record {
+      status = Status.Success;
+      media = MediaType.PlainText;
+      length = length (version_line number);
+      body = Rest.Words (version_line number);
+    }) }
 {
     let text = version_text(alloc, number)?;
     Ok(Opened {

@@ -79,7 +79,8 @@ fn cut_plain(text: &[u8], cut: &mut Cut, out: &mut Vec<u8>) -> Result<(), OutOfM
 /// Appends what is cut of an IRI, in its brackets.
 #[tactic(auto, using(list_laws::proofs::Begins::begins_on))]
 fn cut_iri(text: &str, cut: &mut Cut, out: &mut Vec<u8>) -> Result<(), OutOfMemory>
-    ensures ok { OnOk result (CutsMarks cut.old cut.new (plain_marks (60 ∷ []) ++ (plain_marks text.now ++ plain_marks (62 ∷ []))) out.old.items out.new.items) }
+    ensures ok { OnOk result (CutsMarks cut.old cut.new
+        (plain_marks (60 ∷ []) ++ (plain_marks text.now ++ plain_marks (62 ∷ []))) out.old.items out.new.items) }
     ensures front { Begins out.old.items out.new.items }
 {
     cut_plain(b"<", cut, out)?;
@@ -90,7 +91,8 @@ fn cut_iri(text: &str, cut: &mut Cut, out: &mut Vec<u8>) -> Result<(), OutOfMemo
 /// Appends what is cut of two texts that are written as they are.
 #[tactic(auto, using(list_laws::proofs::Begins::begins_on))]
 fn cut_both(front: &[u8], text: &str, cut: &mut Cut, out: &mut Vec<u8>) -> Result<(), OutOfMemory>
-    ensures ok { OnOk result (CutsMarks cut.old cut.new (plain_marks front.now ++ plain_marks text.now) out.old.items out.new.items) }
+    ensures ok { OnOk result (CutsMarks cut.old cut.new
+        (plain_marks front.now ++ plain_marks text.now) out.old.items out.new.items) }
     ensures front { Begins out.old.items out.new.items }
 {
     cut_plain(front, cut, out)?;
@@ -100,7 +102,8 @@ fn cut_both(front: &[u8], text: &str, cut: &mut Cut, out: &mut Vec<u8>) -> Resul
 /// Appends what is cut of what stands behind the closing quote of a literal.
 #[tactic(auto, using(list_laws::proofs::Begins::itself_begins, crate::proofs::PartLaws::cuts_nothing, crate::proofs::PartLaws::tag_cuts))]
 fn cut_kind(kind: &Kind, cut: &mut Cut, out: &mut Vec<u8>) -> Result<(), OutOfMemory>
-    ensures ok { OnOk result (CutsMarks cut.old cut.new (plain_marks (canonical_kind kind.now)) out.old.items out.new.items) }
+    ensures ok { OnOk result
+        (CutsMarks cut.old cut.new (plain_marks (canonical_kind kind.now)) out.old.items out.new.items) }
     ensures front { Begins out.old.items out.new.items }
 {
     match kind {
@@ -113,7 +116,8 @@ fn cut_kind(kind: &Kind, cut: &mut Cut, out: &mut Vec<u8>) -> Result<(), OutOfMe
 /// Appends what is cut of a datatype behind the closing quote of a literal.
 #[tactic(auto, using(list_laws::proofs::Begins::begins_on))]
 fn cut_datatype(text: &str, cut: &mut Cut, out: &mut Vec<u8>) -> Result<(), OutOfMemory>
-    ensures ok { OnOk result (CutsMarks cut.old cut.new (plain_marks (94 ∷ 94 ∷ 60 ∷ (text.now ++ 62 ∷ []))) out.old.items out.new.items) }
+    ensures ok { OnOk result (CutsMarks cut.old cut.new
+        (plain_marks (94 ∷ 94 ∷ 60 ∷ (text.now ++ 62 ∷ []))) out.old.items out.new.items) }
     ensures front { Begins out.old.items out.new.items }
 {
     cut_both(b"^^<", text, cut, out)?;
@@ -123,7 +127,10 @@ fn cut_datatype(text: &str, cut: &mut Cut, out: &mut Vec<u8>) -> Result<(), OutO
 /// Appends what is cut of a literal.
 #[tactic(auto, using(list_laws::proofs::Begins::begins_on))]
 fn cut_literal(form: &str, kind: &Kind, cut: &mut Cut, out: &mut Vec<u8>) -> Result<(), OutOfMemory>
-    ensures ok { OnOk result (CutsMarks cut.old cut.new (plain_marks (34 ∷ []) ++ (form_marks form.now ++ (plain_marks (34 ∷ []) ++ plain_marks (canonical_kind kind.now)))) out.old.items out.new.items) }
+    ensures ok { OnOk result (CutsMarks cut.old cut.new
+        (plain_marks (34 ∷ []) ++ (form_marks form.now
+        ++ (plain_marks (34 ∷ []) ++ plain_marks (canonical_kind kind.now))))
+        out.old.items out.new.items) }
     ensures front { Begins out.old.items out.new.items }
 {
     cut_plain(b"\"", cut, out)?;
@@ -172,7 +179,10 @@ fn cut_triple(
     out: &mut Vec<u8>,
 ) -> Result<bool, OutOfMemory>
     requires { IsIdTriple (held_terms table.now) ids }
-    ensures ok { IfOk result (λ more. (more ≡ nat_lt 8192 (length (triple_marks (triple_at (held_terms table.now) ids)) - from)) × (out.new.items ≡ out.old.items ++ concat (take 8192 (drop from (triple_marks (triple_at (held_terms table.now) ids)))))) }
+    ensures ok { IfOk result (λ more.
+        (more ≡ nat_lt 8192 (length (triple_marks (triple_at (held_terms table.now) ids)) - from))
+        × (out.new.items ≡ out.old.items
+        ++ concat (take 8192 (drop from (triple_marks (triple_at (held_terms table.now) ids)))))) }
     ensures front { Begins out.old.items out.new.items }
 {
     let mut cut = Cut::new(from, PART);
@@ -192,7 +202,9 @@ pub fn write_triple_part(
 ) -> Result<Begun, OutOfMemory>
     requires ids { IsIdTriple (held_terms table.now) ids }
     requires some { from < length (triple_marks (triple_at (held_terms table.now) ids)) }
-    ensures ok { (quads : List Quad) → IfOk result (λ begun. IsGiven (begun_text table.now quads (Begun.Triple ids from)) (begun_text table.now quads begun) out.old.items out.new.items) }
+    ensures ok { (quads : List Quad) → IfOk result (λ begun.
+        IsGiven (begun_text table.now quads (Begun.Triple ids from)) (begun_text table.now quads begun)
+        out.old.items out.new.items) }
     ensures begun { (quads : List Quad) → IfOk result (IsBegun table.now quads) }
     ensures front { Begins out.old.items out.new.items }
 {
@@ -218,7 +230,8 @@ pub fn write_line_part(
 ) -> Result<Begun, OutOfMemory>
     requires place { place < length lines.now }
     requires some { from < length (canonical_line (slice_index_or lines.now place some_quad)) }
-    ensures ok { (s : Stored) → IfOk result (λ begun. IsGiven (begun_text s lines.now (Begun.Line place from)) (begun_text s lines.now begun) out.old.items out.new.items) }
+    ensures ok { (s : Stored) → IfOk result (λ begun. IsGiven (begun_text s lines.now (Begun.Line place from))
+        (begun_text s lines.now begun) out.old.items out.new.items) }
     ensures begun { (s : Stored) → IfOk result (IsBegun s lines.now) }
     ensures front { Begins out.old.items out.new.items }
 {
