@@ -35,7 +35,7 @@ pub use datatype::{Datatype, is_datatype, is_lang_string, is_xsd_string};
 pub use fragment::{canonical_len_is, fragment_is_one, no_other_fragment};
 pub use iri::{IriText, has_scheme, is_iri, is_iri_byte};
 pub use label::{Label, is_label, is_label_char, is_label_start};
-pub use limits::{LONGEST_LABEL, MOST_ROWS};
+pub use limits::{LONGEST_LABEL, LONGEST_READ, LONGEST_TERM, MOST_ROWS, MOST_TRIPLES};
 pub use order::{
     order_is_total, order_tells_apart, triple_order_is_total, triple_order_tells_apart,
 };

@@ -3,6 +3,7 @@ use Rattle.std.specs.Prelude.{ℕ, ◌≡◌, ◌⊎◌, Bool, true, not, ◌==�
 use Rattle.std.specs.Char.{is_ascii_alphanumeric}
 use Rattle.std.specs.Str.{str_to_ascii_lowercase}
 use Rattle.std.specs.List.{list_all, list_any}
+use Rattle.tpf_base.specs.declared.limits.TheConstants.{HIGHEST_PORT}
 
 -- an ASCII letter, a digit, - or .
 abbrev pub is_host_byte : ℕ → Bool
@@ -30,9 +31,9 @@ abbrev pub is_query_part : Option (List ℕ) → Bool
 is_query_part None = true
 is_query_part (Some query) = list_all is_address_byte query
 
--- a port is 1 to 65535
+-- a port is 1 to HIGHEST_PORT
 abbrev pub is_port : ℕ → Bool
-is_port port = nat_le 1 port && nat_le port 65535
+is_port port = nat_le 1 port && nat_le port HIGHEST_PORT
 
 -- an address by its parts, as they stand once it was read
 pub record Address : Type 0 where
@@ -61,7 +62,7 @@ target_of address = address.path ++ query_text address.query
 abbrev pub address_text : Address → List ℕ
 address_text address = codes "http://" ++ authority_of address ++ target_of address
 
--- no port, which means 80, or a colon and 1 to 65535 in digits without a leading zero
+-- no port, which means 80, or a colon and 1 to HIGHEST_PORT in digits without a leading zero
 abbrev pub IsPortTyped : List ℕ → ℕ → Type 0
 IsPortTyped typed port = ((typed ≡ []) × (port ≡ 80)) ⊎ ((typed ≡ codes ":" ++ decimal port) × (is_port port ≡ true))
 

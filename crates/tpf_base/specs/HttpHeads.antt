@@ -4,6 +4,7 @@ use Rattle.std.specs.List.{list_all, list_any, slice_split, starts_with}
 use Rattle.std.specs.Str.{str_eq_ignore_ascii_case}
 use Rattle.httparse.specs.Grammar.{Field, RequestHead, trim_ows}
 use Rattle.httparse.specs.Spans.{name_and_value}
+use Rattle.tpf_base.specs.declared.limits.TheConstants.{HEAD_LIMIT}
 use Rattle.tpf_base.specs.HttpReader.{read_request}
 
 -- ---- where a head begins and ends
@@ -141,7 +142,7 @@ judged head = if nat_lt 64 (field_lines head) then Rejected 431 else judged_head
 
 -- the most bytes of a head and the empty lines before it
 abbrev pub head_limit : ℕ
-head_limit = 4194304
+head_limit = HEAD_LIMIT
 
 -- no whole head yet; a request and how many bytes it took; or the status with which the connection ends
 pub data NextRequest : Type 0 where

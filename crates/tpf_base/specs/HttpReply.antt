@@ -6,6 +6,7 @@ use Rattle.std.specs.Str.{str_eq_ignore_ascii_case}
 use Rattle.std.specs.Str.Parse.{digits_value}
 use Rattle.std.specs.Char.{is_ascii_digit, is_ascii_hexdigit}
 use Rattle.httparse.specs.Grammar.{ResponseHead, status_code, skip_ows, is_extension_byte}
+use Rattle.tpf_base.specs.declared.limits.TheConstants.{HEADS_LIMIT, LINE_LIMIT, PADDING_LIMIT}
 use Rattle.tpf_base.specs.HttpReader.{read_response, split_run}
 use Rattle.tpf_base.specs.HttpHeads.{blank_length, ends_empty, field_lines, pairs_of, values_of, is_word, says_close, taken_whole}
 
@@ -18,7 +19,7 @@ pub data ReplyFault : Type 0 where
 
 -- the most bytes of heads, and of lines after a body in chunks
 abbrev pub heads_limit : ℕ
-heads_limit = 65536
+heads_limit = HEADS_LIMIT
 
 -- the head that is all of the text, which may begin with empty lines
 unfoldable pub response_head : List ℕ → Option ResponseHead
@@ -105,7 +106,7 @@ chunk_size line = size_of_run (split_run is_ascii_hexdigit line)
 
 -- the most bytes of a chunk line
 abbrev pub line_limit : ℕ
-line_limit = 1024
+line_limit = LINE_LIMIT
 
 -- ---- what was read so far
 
@@ -174,7 +175,7 @@ is_over limit g = nat_lt limit (length g.body)
 
 -- chunk lines and line ends are too many bytes for the body so far
 unfoldable pub is_padded : Gathered → Bool
-is_padded g = nat_lt (1048576 + 8 * length g.body) g.extra
+is_padded g = nat_lt (PADDING_LIMIT + 8 * length g.body) g.extra
 
 -- the place, unless a limit is passed
 abbrev pub unless : Bool → Place → Place

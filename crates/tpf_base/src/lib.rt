@@ -29,6 +29,7 @@ mod decimal;
 mod drain;
 mod failing;
 mod fault;
+mod limits;
 mod mem_shelf;
 mod mem_sink;
 mod names;
@@ -44,6 +45,9 @@ pub use decimal::numbers_read_back;
 pub use drain::Drain;
 pub use failing::{Failing, Failures};
 pub use fault::Fault;
+pub use limits::{
+    ENOUGH_PENDING, HEAD_LIMIT, HEADS_LIMIT, HIGHEST_PORT, LINE_LIMIT, PADDING_LIMIT,
+};
 pub use mem_shelf::MemShelf;
 pub use mem_sink::MemSink;
 pub use names::Names;
