@@ -83,6 +83,19 @@ is_in_number ExponentSign = true
 is_in_number ExponentDigits = true
 is_in_number _ = false
 
+-- behind the colon of a prefix, where a local part is read
+abbrev pub is_in_local : State → Bool
+is_in_local Prefix = true
+is_in_local LocalFirstEscape = true
+is_in_local LocalFirstPercent = true
+is_in_local LocalFirstPercentHex = true
+is_in_local Local = true
+is_in_local LocalDots = true
+is_in_local LocalEscape = true
+is_in_local LocalPercent = true
+is_in_local LocalPercentHex = true
+is_in_local _ = false
+
 -- the token that has just been read, where the state ends one
 abbrev pub kind_at : State → Option PieceKind
 kind_at White = Some kinds.White

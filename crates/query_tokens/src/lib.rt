@@ -17,6 +17,9 @@ mod ahead;
 mod class;
 pub mod escape;
 pub mod kind;
+pub mod laws;
 mod longest;
 mod machine;
 pub mod piece;
+
+pub use piece::LONGEST_QUERY;

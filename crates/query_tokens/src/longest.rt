@@ -75,7 +75,8 @@ pub fn longest(chars: &[char], place: usize, run: &mut Run) -> Option<(PieceKind
     requires within { place ≤ length chars.now }
     requires run { IsRun chars.now run.old }
     ensures run { IsRun chars.now run.new }
-    ensures longest { MatchOption result (NoToken (drop place chars.now)) (λ p. IsLongest (drop place chars.now) p.0 p.1) }
+    ensures longest { MatchOption result (NoToken (drop place chars.now))
+        (λ p. IsLongest (drop place chars.now) p.0 p.1) }
 {
     longest_front(chars, &chars[place..], place, run)
 }

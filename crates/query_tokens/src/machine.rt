@@ -1,7 +1,7 @@
 // The machine that reads one token: where it stands inside the token, and where it goes with a
 // character. Its states are named by what they have read of the token.
 ghost use Rattle.std.specs.Prelude.{◌≡◌, None, if◌then◌else◌};
-ghost use Rattle.query_tokens.specs.Machine.{next, kind_at, is_in_number};
+ghost use Rattle.query_tokens.specs.Machine.{next, kind_at, is_in_number, is_in_local};
 
 use crate::class::Class;
 use crate::kind::PieceKind;
@@ -154,6 +154,37 @@ fn step_in_number(state: State, class: Class) -> Option<State>
     }
 }
 
+// The states behind the colon of a prefix, where a local part is read.
+macro_rules! local {
+    () => {
+        State::Prefix
+            | State::LocalFirstEscape
+            | State::LocalFirstPercent
+            | State::LocalFirstPercentHex
+            | State::Local
+            | State::LocalDots
+            | State::LocalEscape
+            | State::LocalPercent
+            | State::LocalPercentHex
+    };
+}
+
+fn step_in_local(state: State, class: Class) -> Option<State>
+    ensures { result ≡ (if is_in_local state then next state class else None) }
+{
+    match state {
+        State::Prefix =>
+            edges!(class, is(Class::Backslash) => LocalFirstEscape, is(Class::Percent) => LocalFirstPercent, is_local_start() => Local),
+        State::LocalFirstPercent => edges!(class, is_hex() => LocalFirstPercentHex),
+        State::Local | State::LocalDots =>
+            edges!(class, is(Class::Backslash) => LocalEscape, is(Class::Dot) => LocalDots, is(Class::Percent) => LocalPercent, is_local_char() => Local),
+        State::LocalPercent => edges!(class, is_hex() => LocalPercentHex),
+        State::LocalFirstPercentHex | State::LocalPercentHex => edges!(class, is_hex() => Local),
+        State::LocalFirstEscape | State::LocalEscape => edges!(class, is_escaped() => Local),
+        _ => None,
+    }
+}
+
 /// The state after one more character of a class, where there is one.
 pub fn step(state: State, class: Class) -> Option<State>
     ensures { result ≡ next state class }
@@ -171,8 +202,6 @@ pub fn step(state: State, class: Class) -> Option<State>
         State::Caret => edges!(class, is(Class::Caret) => Carets),
         State::VariableMark => edges!(class, is_name_start() => Variable),
         State::Underscore => edges!(class, is(Class::Colon) => LabelStart),
-        State::Prefix =>
-            edges!(class, is(Class::Backslash) => LocalFirstEscape, is(Class::Percent) => LocalFirstPercent, is_local_start() => Local),
         State::Dot => edges!(class, is(Class::Digit) => Fraction),
         State::OpenBracket =>
             edges!(class, is(Class::CloseBracket) => Anonymous, is_white() => OpenBracket),
@@ -186,19 +215,14 @@ pub fn step(state: State, class: Class) -> Option<State>
         State::ApostrophedEscape => edges!(class, is_line_char() => Apostrophed),
         State::Variable => edges!(class, is_variable_char() => Variable),
         State::LabelStart => edges!(class, is_name_start() => Label),
-        State::LocalFirstEscape | State::LocalEscape => edges!(class, is_escaped() => Local),
-        State::Local | State::LocalDots =>
-            edges!(class, is(Class::Backslash) => LocalEscape, is(Class::Dot) => LocalDots, is(Class::Percent) => LocalPercent, is_local_char() => Local),
-        State::LocalFirstPercent => edges!(class, is_hex() => LocalFirstPercentHex),
         State::Tag => edges!(class, is(Class::Minus) => TagMinus, is_letter() => Tag),
         State::NameDots => edges!(class, is_name_char() => Name, is(Class::Dot) => NameDots),
         State::Label | State::LabelDots =>
             edges!(class, is(Class::Dot) => LabelDots, is_name_char() => Label),
-        State::LocalPercent => edges!(class, is_hex() => LocalPercentHex),
-        State::LocalFirstPercentHex | State::LocalPercentHex => edges!(class, is_hex() => Local),
         State::TagMinus => edges!(class, is_letter_or_digit() => TagMore),
         State::TagMore =>
             edges!(class, is(Class::Minus) => TagMinus, is_letter_or_digit() => TagMore),
+        local!() => step_in_local(state, class),
         _ => step_in_number(state, class),
     }
 }

@@ -3,14 +3,16 @@ ghost use Rattle.std.specs.Prelude.{◌≡◌, ℕ, ◌≤◌, ◌*◌, List, le
 ghost use Rattle.std.specs.Str.{encode_utf8_all};
 ghost use Rattle.query_tokens.specs.Names.{IsRun};
 ghost use Rattle.query_tokens.specs.Escapes.{IsPiece, NoPiece};
-ghost use Rattle.query_tokens.specs.Pieces.{is_gap, byte_place, placed_one, Fits, AreTokens, IsTokenFault, OneReading};
+ghost use Rattle.query_tokens.specs.Pieces.{is_gap, byte_place, placed_one, Fits, AreTokens, IsTokenFault};
 
 use crate::ahead::Run;
 use crate::escape::has_good_escapes;
 use crate::kind::PieceKind;
 use crate::longest::longest;
-use regular_expressions::matching_is_decided;
 use std::alloc::{AllocFailed, Global};
+
+/// The most bytes of a query's text, and so the most of its characters and of its tokens.
+pub const LONGEST_QUERY: usize = 262144;
 
 /// A token: its kind, the place of its first character and how many it has, and the places of
 /// its first byte and of the byte past its last. Places count from 0, bytes are those of UTF-8.
@@ -51,7 +53,7 @@ fn is_gap(kind: PieceKind) -> bool
 
 /// How many bytes these characters have.
 fn byte_len(chars: &[char]) -> usize
-    requires { length chars.now ≤ 262144 }
+    requires { length chars.now ≤ LONGEST_QUERY }
     ensures value { result ≡ length (encode_utf8_all chars.now) }
     ensures small { result ≤ 4 * length chars.now }
 {
@@ -92,15 +94,16 @@ fn add(pieces: &mut Vec<Piece>, piece: Piece) -> Result<(), PieceFault>
     Ok(())
 }
 
-/// The tokens of a text of at most 262144 characters, in their order, each the longest at its place
-/// (SPARQL 1.1, section 19.8); white space and comments between them are left out. `At` exactly
-/// where some place begins no token, no white space and no comment: the first such place, in bytes.
-/// `OutOfMemory` comes only where memory runs out.
+/// The tokens of a text of at most `LONGEST_QUERY` characters (262144), in their order, each the longest
+/// at its place (SPARQL 1.1, section 19.8); white space and comments between them are left out. `At`
+/// exactly where some place begins no token, no white space and no comment: the first such place, in
+/// bytes. `OutOfMemory` comes only where memory runs out.
 pub fn pieces(alloc: Global, chars: &[char]) -> Result<Vec<Piece>, PieceFault>
-    requires { length chars.now ≤ 262144 }
+    requires { length chars.now ≤ LONGEST_QUERY }
     ensures ok { IfOk result (λ v. AreTokens chars.now v.items) }
     ensures fits { IfOk result (λ v. All (Fits chars.now) v.items) }
-    ensures fault { (n : ℕ) → IsErrOf result (PieceFault.At n) → (place : ℕ) × IsTokenFault chars.now place × (n ≡ byte_place chars.now place) }
+    ensures fault { (n : ℕ) → IsErrOf result (PieceFault.At n)
+        → (place : ℕ) × IsTokenFault chars.now place × (n ≡ byte_place chars.now place) }
 {
     let mut pieces = Vec::new(alloc);
     let mut run = Run {
@@ -131,11 +134,4 @@ pub fn pieces(alloc: Global, chars: &[char]) -> Result<Vec<Piece>, PieceFault>
         }
     }
     Ok(pieces)
-}
-
-/// A text has exactly one of the two: one list of tokens, or one first fault.
-pub fn one_reading()
-    ensures { OneReading }
-{
-    matching_is_decided();
 }
