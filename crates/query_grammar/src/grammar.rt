@@ -1,10 +1,9 @@
 // Which kinds of token are a query, and where they stop to be one.
 ghost use Rattle.std.specs.Prelude.{MatchOption};
-ghost use Rattle.query_grammar.specs.Grammar.{IsQuery, IsGrammarFault, OneFault};
+ghost use Rattle.query_grammar.specs.Grammar.{IsQuery, IsGrammarFault};
 
 use crate::kind::Kind;
 use crate::machine::{State, is_end, next};
-use regular_expressions::{beginning_is_decided, matching_is_decided};
 
 /// The number of the first token with which the tokens so far begin no query, counted from 0, or
 /// the number of tokens where they only end too early; `None` exactly where they are a query: a
@@ -24,13 +23,4 @@ pub fn grammar_fault(kinds: &[Kind]) -> Option<usize>
     } else {
         Some(kinds.len())
     }
-}
-
-/// Tokens are exactly one of the two: a query, or a list with one place of fault. Whatever begins
-/// a query can be completed, so that the first token that cannot come is known at once.
-pub fn one_fault()
-    ensures { OneFault }
-{
-    matching_is_decided();
-    beginning_is_decided();
 }

@@ -19,4 +19,5 @@ pub mod grammar;
 mod group_machine;
 pub mod groups;
 pub mod kind;
+pub mod laws;
 mod machine;
