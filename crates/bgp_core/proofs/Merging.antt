@@ -25,7 +25,7 @@ either_none : (o : Option Term) → o ≡ either o None
 either_none None = refl
 either_none (Some t) = refl
 
-kept_none : (b : Bool) → None ≡ if_kept b None
+pub kept_none : (b : Bool) → None ≡ if_kept b None
 kept_none true = refl
 kept_none false = refl
 
@@ -46,18 +46,18 @@ merged_at (o ∷ r) [] n = either_none (term_at (o ∷ r) n)
 merged_at (o ∷ r) (p ∷ s) zero = refl
 merged_at (o ∷ r) (p ∷ s) (suc n) = merged_at r s n
 
-merged_length : (r s : Places) → length r ≡ length s → length (merged r s) ≡ length r
+pub merged_length : (r s : Places) → length r ≡ length s → length (merged r s) ≡ length r
 merged_length [] s h = sym h
 merged_length (o ∷ r) [] h = refl
 merged_length (o ∷ r) (p ∷ s) h = let e : length (merged r s) ≡ length r = merged_length r s (omega (arith, h)) in omega (arith, e)
 
-kept_at : (flags : List Bool) (r : Places) (n : ℕ) → term_at (kept flags r) n ≡ if_kept (get_or flags n true) (term_at r n)
+pub kept_at : (flags : List Bool) (r : Places) (n : ℕ) → term_at (kept flags r) n ≡ if_kept (get_or flags n true) (term_at r n)
 kept_at [] r n = refl
 kept_at (b ∷ flags) [] n = kept_none (get_or (b ∷ flags) n true)
 kept_at (b ∷ flags) (o ∷ r) zero = refl
 kept_at (b ∷ flags) (o ∷ r) (suc n) = kept_at flags r n
 
-kept_length : (flags : List Bool) (r : Places) → length (kept flags r) ≡ length r
+pub kept_length : (flags : List Bool) (r : Places) → length (kept flags r) ≡ length r
 kept_length [] r = refl
 kept_length (b ∷ flags) [] = refl
 kept_length (b ∷ flags) (o ∷ r) = let e : length (kept flags r) ≡ length r = kept_length flags r in omega (arith, e)

@@ -1,5 +1,5 @@
 -- Matching and solutions (SPARQL 1.1 Query, 18.3 and 18.5), over one list of triples.
-use Rattle.std.specs.Prelude.{ℕ, List, [], ◌∷◌, ◌++◌, Option, Some, None, if◌then◌else◌, slice_get, slice_set}
+use Rattle.std.specs.Prelude.{ℕ, List, [], ◌∷◌, ◌++◌, length, replicate, Option, Some, None, if◌then◌else◌, slice_get, slice_set}
 use Rattle.std.specs.List.{flat_map, list_any}
 use Rattle.rdf_terms.specs.Same.{term_eq, triple_eq}
 use Rattle.rdf_terms.specs.declared.term.Term.{Term}
@@ -7,6 +7,7 @@ use Rattle.rdf_terms.specs.declared.term.Triple.{Triple}
 use Rattle.bgp_core.specs.declared.pattern.Part.{Part}
 use Rattle.bgp_core.specs.declared.pattern.Part.TheVariants.{Fixed, Name}
 use Rattle.bgp_core.specs.declared.pattern.Pattern.{Pattern}
+use Rattle.bgp_core.specs.Queries.{QueryData}
 
 abbrev pub Places : Type 0
 Places = List (Option Term)
@@ -47,6 +48,14 @@ rows_from (Some row) f = f row
 abbrev pub solutions : List Triple → List Pattern → Places → List Places
 solutions triples [] row = row ∷ []
 solutions triples (p ∷ ps) row = flat_map (λ t. rows_from (extension p row t) (solutions triples ps)) triples
+
+-- the row with a place for each name of a query, none of which is bound
+abbrev pub no_names_bound : QueryData → Places
+no_names_bound q = replicate (length q.names) None
+
+-- the solutions of a query over a data set (SPARQL 1.1 Query, 18.5), each with all its names
+abbrev pub solutions_of : List Triple → QueryData → List Places
+solutions_of triples q = solutions triples q.patterns (no_names_bound q)
 
 -- the triple, unless it stands before
 abbrev pub unless_before : List Triple → Triple → List Triple

@@ -18,7 +18,7 @@
 #![tactic(auto)]
 
 mod asking;
-mod laws;
+pub mod laws;
 mod matching;
 mod pattern;
 mod row;

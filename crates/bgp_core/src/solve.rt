@@ -1,10 +1,10 @@
 // The solutions of a query over a list of triples.
-ghost use Rattle.std.specs.Prelude.{◌≡◌, length, IfOk, None, OnOk, replicate, map, ◌++◌, ◌||◌};
+ghost use Rattle.std.specs.Prelude.{◌≡◌, length, IfOk, OnOk, map, ◌++◌, ◌||◌};
 ghost use Rattle.std.specs.List.{AllByRecursion};
 ghost use Rattle.bgp_core.specs.Queries.{HasPlacesFor};
 ghost use Rattle.rdf_terms.specs.Same.{triple_eq};
 ghost use Rattle.rdf_terms.specs.declared.term.Triple.{Triple};
-ghost use Rattle.bgp_core.specs.Solutions.{solutions, distinct};
+ghost use Rattle.bgp_core.specs.Solutions.{solutions, distinct, solutions_of};
 ghost use Rattle.bgp_core.specs.Seen.{is_seen, once_more};
 
 use crate::{Pattern, Query, Row, match_triple};
@@ -19,8 +19,10 @@ fn add_new<'a>(
     once: &mut Vec<&'a Triple>,
     triple: &'a Triple,
 ) -> Result<(), OutOfMemory>
-    ensures once { OnOk result (map (λ t. t.now) once.new.items ≡ map (λ t. t.now) once.old.items ++ once_more (is_seen seen.old triple.entry.now) triple.entry.now) }
-    ensures seen { OnOk result ((q : Triple) → is_seen seen.new q ≡ (triple_eq triple.entry.now q || is_seen seen.old q)) }
+    ensures once { OnOk result (map (λ t. t.now) once.new.items ≡
+        map (λ t. t.now) once.old.items ++ once_more (is_seen seen.old triple.entry.now) triple.entry.now) }
+    ensures seen { OnOk result ((q : Triple) →
+        is_seen seen.new q ≡ (triple_eq triple.entry.now q || is_seen seen.old q)) }
 {
     if seen.insert(triple)? {
         once.push(triple)?;
@@ -64,7 +66,7 @@ fn extend_all(
 }
 
 fn rows_of(alloc: Global, triples: &[Triple], query: &Query) -> Result<Vec<Row>, OutOfMemory>
-    ensures { IfOk result (λ v. v.items ≡ solutions (distinct triples.now) query.now.patterns (replicate (length query.now.names) None)) }
+    ensures { IfOk result (λ v. v.items ≡ solutions_of (distinct triples.now) query.now) }
 {
     let once = distinct(alloc, triples)?;
     let empty = Row::empty(alloc, query.names().len());
@@ -78,7 +80,7 @@ fn rows_of(alloc: Global, triples: &[Triple], query: &Query) -> Result<Vec<Row>,
 /// every name of the query. The only error is out of memory.
 pub fn solutions(alloc: Global, triples: &[Triple], query: &Query) -> Result<Vec<Row>, OutOfMemory>
     ensures fit { IfOk result (λ v. AllByRecursion (λ r. length query.now.names ≡ length r) v.items) }
-    ensures rows { IfOk result (λ v. v.items ≡ solutions (distinct triples.now) query.now.patterns (replicate (length query.now.names) None)) }
+    ensures rows { IfOk result (λ v. v.items ≡ solutions_of (distinct triples.now) query.now) }
 {
     let rows = rows_of(alloc, triples, query)?;
     Ok(rows)
