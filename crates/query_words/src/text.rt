@@ -1,6 +1,7 @@
 // The texts inside tokens.
 ghost use Rattle.std.specs.Prelude.{◌≡◌, ℕ, ◌+◌, ◌≤◌, ◌<◌, List, length, drop, take, IfOk, codes};
 ghost use Rattle.std.specs.Str.{encode_utf8_all, bytes_eq, chars};
+ghost use Rattle.query_tokens.specs.declared.piece.TheConstants.{LONGEST_QUERY};
 ghost use Rattle.query_tokens.specs.Escapes.{resolved, resolved_after, escape_value, escape_length, character_or};
 ghost use Rattle.query_words.specs.Texts.{same_word, inside, colon, unescaped, resolved_text, prefix_text, local_text};
 
@@ -106,11 +107,11 @@ fn unescaped_text(alloc: Global, chars: &[char]) -> Result<Text, OutOfMemory>
     Ok(Text::from_string(text))
 }
 
-/// The local part of a prefixed name of at most 262144 characters: what stands behind its first
-/// colon, without the backslashes of its escapes and with each `%` and its two digits as they are
-/// (PN_LOCAL; SPARQL 1.1, section 19.8).
+/// The local part of a prefixed name of at most `LONGEST_QUERY` characters (262144): what stands behind
+/// its first colon, without the backslashes of its escapes and with each `%` and its two digits as they
+/// are (PN_LOCAL; SPARQL 1.1, section 19.8).
 pub fn local_text(alloc: Global, chars: &[char]) -> Result<Text, OutOfMemory>
-    requires { length chars.now ≤ 262144 }
+    requires { length chars.now ≤ LONGEST_QUERY }
     ensures { IfOk result (λ t. t ≡ local_text chars.now) }
 {
     unescaped_text(alloc, chars_from(chars, colon(chars) + 1))

@@ -1,5 +1,6 @@
 // The tokens of a query, each with what it says.
 ghost use Rattle.std.specs.Prelude.{◌≡◌, ◌≤◌, List, length, take, drop, IfOk, All};
+ghost use Rattle.query_tokens.specs.declared.piece.TheConstants.{LONGEST_QUERY};
 ghost use Rattle.query_tokens.specs.Pieces.{Fits};
 ghost use Rattle.query_words.specs.Words.{word_value, value_of, word_of, words_of, kind_of, kinds_of};
 
@@ -103,7 +104,7 @@ fn word_value(chars: &[char]) -> Value
 
 #[tactic(auto, unfolding(crate::specs::Words::value_of))]
 fn value_of(alloc: Global, kind: PieceKind, chars: &[char]) -> Result<Value, OutOfMemory>
-    requires { length chars.now ≤ 262144 }
+    requires { length chars.now ≤ LONGEST_QUERY }
     ensures { IfOk result (λ v. v ≡ value_of kind chars.now) }
 {
     Ok(match kind {
@@ -134,7 +135,7 @@ fn value_of(alloc: Global, kind: PieceKind, chars: &[char]) -> Result<Value, Out
 }
 
 fn word_of(alloc: Global, chars: &[char], piece: &Piece) -> Result<Word, OutOfMemory>
-    requires short { length chars.now ≤ 262144 }
+    requires short { length chars.now ≤ LONGEST_QUERY }
     requires fits { Fits chars.now piece.now }
     ensures { IfOk result (λ w. w ≡ word_of chars.now piece.now) }
 {
@@ -146,10 +147,10 @@ fn word_of(alloc: Global, chars: &[char], piece: &Piece) -> Result<Word, OutOfMe
     })
 }
 
-/// What the tokens of a text say, in their order; the text has at most 262144 characters, and the
-/// tokens lie within it. `OutOfMemory` comes only where memory runs out.
+/// What the tokens of a text say, in their order; the text has at most `LONGEST_QUERY` characters
+/// (262144), and the tokens lie within it. `OutOfMemory` comes only where memory runs out.
 pub fn words_of(alloc: Global, chars: &[char], pieces: &[Piece]) -> Result<Vec<Word>, OutOfMemory>
-    requires short { length chars.now ≤ 262144 }
+    requires short { length chars.now ≤ LONGEST_QUERY }
     requires fits { All (Fits chars.now) pieces.now }
     ensures { IfOk result (λ v. v.items ≡ words_of chars.now pieces.now) }
 {
