@@ -1,5 +1,5 @@
--- Where lines end.
-use Rattle.std.proofs.Common.{ℕ, suc, ◌≡◌, ◌+◌, ◌<◌, ◌⊎◌, inl, inr, Bool, if◌then◌else◌, true, false, ◌||◌, List, [], ◌∷◌, length, take, drop, Option, Some, None, nat_eq, refl, ap, subst, ◌∙◌, arith}
+-- Where lines end, and lines behind others.
+use Rattle.std.proofs.Common.{ℕ, suc, ◌≡◌, ◌+◌, ◌<◌, ◌⊎◌, inl, inr, Bool, if◌then◌else◌, true, false, ◌||◌, List, [], ◌∷◌, ◌++◌, length, take, drop, Option, Some, None, nat_eq, refl, ap, sym, subst, ◌∙◌, arith}
 use Rattle.std.proofs.lemmas.Bool.{or_parts}
 use Rattle.nquads_text.specs.Reads.{onto_first, lines_from, lines_of}
 use Rattle.nquads_text.specs.Lines.{line_end, without_lf, after_end}
@@ -83,3 +83,16 @@ last_line i b (c ∷ cs) e = last_step i b (c ∷ cs) (λ h. ap (λ (l : List (L
 pub lines_last : (bytes : List ℕ) → 0 < length bytes → line_end 0 bytes ≡ None → lines_of bytes ≡ bytes ∷ []
 lines_last [] h e = absurd (omega arith)
 lines_last (b ∷ bs) h e = last_line 0 b bs e
+
+-- ---- lines behind others
+
+-- where a byte stands in front, there is a first line
+pub first_by : (lf is_cr : Bool) (b : ℕ) (one two three : List (List ℕ)) → (l : List ℕ) × (ls : List (List ℕ)) × ((if lf then [] ∷ one else (if is_cr then [] ∷ two else onto_first b three)) ≡ l ∷ ls)
+first_by true k b one two three = ([], one, refl)
+first_by false true b one two three = ([], two, refl)
+first_by false false b one two [] = (b ∷ [], [], refl)
+first_by false false b one two (line ∷ lines) = (b ∷ line, lines, refl)
+
+-- a byte in front of the first line changes no line behind it
+pub onto_append : (b : ℕ) (lines more : List (List ℕ)) → (l : List ℕ) × (ls : List (List ℕ)) × (lines ≡ l ∷ ls) → onto_first b (lines ++ more) ≡ onto_first b lines ++ more
+onto_append b lines more f = subst (λ (x : List (List ℕ)). onto_first b (x ++ more) ≡ onto_first b x ++ more) (sym f.2) refl

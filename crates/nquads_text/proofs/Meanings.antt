@@ -13,6 +13,7 @@ use Rattle.rdf_terms.specs.Datatype.{is_xsd_string}
 use Rattle.rdf_terms.specs.Kinds.{typed_kind}
 use Rattle.rdf_terms.specs.Canon.{canonical_term}
 use Rattle.rdf_terms.specs.Triples.{IsIri, IsIriOrBlank, IsRdfGraph, IsRdfQuad}
+use Rattle.rdf_terms.specs.declared.limits.TheConstants.{LONGEST_LABEL}
 use Rattle.rdf_terms.specs.declared.term.Quad.{Quad}
 use Rattle.rdf_terms.specs.declared.term.Term.{Term}
 use Rattle.rdf_terms.specs.declared.term.Term.TheVariants.{Iri, Blank, Literal}
@@ -307,7 +308,7 @@ quad_classes raw q c m =
 
 short_label : (term : Term) → has_long_label term ≡ false → HasShortLabel term
 short_label (Iri text) h = tt
-short_label (Blank label) h = ltb-false 1024 (length label) h
+short_label (Blank label) h = ltb-false LONGEST_LABEL (length label) h
 short_label (Literal form kind) h = tt
 
 readable_term : (longest : ℕ) (term : Term) → IsValidTerm term → is_too_long longest term ≡ false → IsReadableTerm longest term

@@ -67,6 +67,11 @@ read_on longest n quads more (line ∷ front) rest h =
     let place : (n + 1) + length front ≡ n + length (line ∷ front) = omega arith in
     here ∙ later ∙ ap (λ (l : List Quad). read_lines longest l ((n + 1) + length front) rest) whole ∙ ap (λ (k : ℕ). read_lines longest (quads ++ more) k rest) place
 
+-- lines behind others give their quads behind those
+pub reads_append : (longest : ℕ) (xs ys : List (List ℕ)) (a b : List Quad) → ReadsLines longest xs a → ReadsLines longest ys b → ReadsLines longest (xs ++ ys) (a ++ b)
+reads_append longest [] ys a b h k = subst (λ (l : List Quad). ReadsLines longest ys (l ++ b)) (sym h) k
+reads_append longest (x ∷ xs) ys a b h k = (h.0, h.1 ++ b, h.2, reads_append longest xs ys h.1 b h.3 k, ap (λ (l : List Quad). l ++ b) h.4 ∙ append_assoc (option_to_list h.0) h.1 b)
+
 pub record FaultFrom (longest n : ℕ) (lines : List (List ℕ)) (bad : ℕ × Why) : Type 0 where
   pub front : List (List ℕ)
   pub line : List ℕ

@@ -12,6 +12,7 @@ use Rattle.rdf_terms.specs.Tag.{is_tag, is_lower_tag, is_upper, lower}
 use Rattle.rdf_terms.specs.Datatype.{is_datatype, is_xsd_string, is_lang_string}
 use Rattle.rdf_terms.specs.Canon.{is_marked, after_mark, canonical_byte, canonical_form, canonical_kind, canonical_term, canonical_graph, canonical_line, canon}
 use Rattle.rdf_terms.specs.Triples.{IsIri, IsIriOrBlank, IsRdfGraph, IsRdfQuad}
+use Rattle.rdf_terms.specs.declared.limits.TheConstants.{LONGEST_LABEL}
 use Rattle.rdf_terms.specs.declared.term.Quad.{Quad}
 use Rattle.rdf_terms.specs.declared.term.Term.{Term}
 use Rattle.rdf_terms.specs.declared.term.Term.TheVariants.{Iri, Blank, Literal}
@@ -402,7 +403,7 @@ valid_passes (Literal form kind) v = kind_passes kind v.1
 
 label_passes : (term : Term) → HasShortLabel term → has_long_label term ≡ false
 label_passes (Iri text) h = refl
-label_passes (Blank label) h = le-ltb 1024 (length label) h
+label_passes (Blank label) h = le-ltb LONGEST_LABEL (length label) h
 label_passes (Literal form kind) h = refl
 
 term_passes : (longest : ℕ) (term : Term) → IsReadableTerm longest term → Passes longest term

@@ -1,7 +1,8 @@
 -- The text that stands between two marks, its escapes resolved byte by byte.
-use Rattle.std.specs.Prelude.{ℕ, ◌+◌, ◌*◌, ◌-◌, Bool, ◌==◌, min, List, [], ◌∷◌, ◌++◌, Option, Some, if◌then◌else◌}
+use Rattle.std.specs.Prelude.{ℕ, ◌≡◌, ◌≤◌, ◌+◌, ◌*◌, ◌-◌, Bool, ◌==◌, min, List, [], ◌∷◌, ◌++◌, Option, Some, None, MatchOption, if◌then◌else◌}
 use Rattle.std.specs.Char.{encode_utf8, digit_value}
 use Rattle.list_laws.specs.Options.{when, ◌>>=◌}
+use Rattle.nquads_text.specs.declared.escape.Place.{Place}
 use Rattle.nquads_text.specs.declared.scan.Awaits.{Awaits}
 use Rattle.nquads_text.specs.declared.scan.Awaits.TheVariants.{Item, Escape, Digits}
 use Rattle.nquads_text.specs.Scan.{digits_left}
@@ -27,6 +28,11 @@ abbrev pub resolve_step : Bool → List ℕ → Awaits → ℕ → ℕ → Optio
 resolve_step iri out Item v b = if b == 92 then Some (out, Escape, 0) else Some (out ++ b ∷ [], Item, 0)
 resolve_step iri out Escape v b = if b == 117 then Some (out, digits_left 4, 0) else (if b == 85 then Some (out, digits_left 8, 0) else Some (out ++ short_value b ∷ [], Item, 0))
 resolve_step iri out (Digits more) v b = after_digit iri out more (more_digits v b)
+
+-- a step comes to this: what is written now and the place answered, whose digits have at most the value that stands for
+-- all above U+10FFFF; or nothing is answered, since an escape names what it may not
+abbrev pub ComesTo : Option Resolving → List ℕ → Option Place → Type 0
+ComesTo step out answer = MatchOption answer (step ≡ None) (λ p. (step ≡ Some (out, p.awaits, p.value)) × (p.value ≤ 0x110000))
 
 abbrev pub resolve_from : Bool → List ℕ → Awaits → ℕ → List ℕ → Option (List ℕ)
 resolve_from iri out s v [] = Some out

@@ -3,6 +3,7 @@ use Rattle.std.specs.Prelude.{ℕ, Bool, false, not, ◌||◌, nat_lt, length, O
 use Rattle.rdf_terms.specs.Iri.{has_scheme}
 use Rattle.rdf_terms.specs.Datatype.{is_lang_string}
 use Rattle.rdf_terms.specs.Canon.{canonical_term}
+use Rattle.rdf_terms.specs.declared.limits.TheConstants.{LONGEST_LABEL}
 use Rattle.rdf_terms.specs.declared.term.Quad.{Quad}
 use Rattle.rdf_terms.specs.declared.term.Term.{Term}
 use Rattle.rdf_terms.specs.declared.term.Term.TheVariants.{Iri, Blank, Literal}
@@ -33,10 +34,10 @@ has_lang_string (Iri text) = false
 has_lang_string (Blank label) = false
 has_lang_string (Literal form kind) = is_lang_kind kind
 
--- a label of more than 1024 bytes
+-- a label of more than LONGEST_LABEL bytes
 abbrev pub has_long_label : Term → Bool
 has_long_label (Iri text) = false
-has_long_label (Blank label) = nat_lt 1024 (length label)
+has_long_label (Blank label) = nat_lt LONGEST_LABEL (length label)
 has_long_label (Literal form kind) = false
 
 -- a canonical text of more than longest bytes, or such a label

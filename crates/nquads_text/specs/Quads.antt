@@ -7,7 +7,7 @@ use Rattle.rdf_terms.specs.Triples.{IsRdfQuad}
 use Rattle.rdf_terms.specs.declared.term.Quad.{Quad}
 use Rattle.rdf_terms.specs.declared.term.Term.{Term}
 
--- a valid term, whose canonical text has at most longest bytes, with a label of at most 1024
+-- a valid term, whose canonical text has at most longest bytes, with a label of at most LONGEST_LABEL
 pub record IsReadableTerm (longest : ℕ) (term : Term) : Type 0 where
   pub valid : IsValidTerm term
   pub fits : length (canonical_term term) ≤ longest

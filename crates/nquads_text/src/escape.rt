@@ -6,7 +6,7 @@ ghost use Rattle.std.specs.Str.{IsUtf8};
 ghost use Rattle.nquads_text.specs.Meaning.{short_value, is_scalar, is_nameable, IsItem};
 ghost use Rattle.nquads_text.specs.declared.scan.Awaits.TheVariants.{Item};
 ghost use Rattle.nquads_text.specs.Scan.{first_place};
-ghost use Rattle.nquads_text.specs.Escape.{more_digits, with_named, after_digit, resolve_step, resolve_from, resolved};
+ghost use Rattle.nquads_text.specs.Escape.{more_digits, with_named, after_digit, resolve_step, ComesTo, resolve_from, resolved};
 ghost use Rattle.nquads_text.specs.Line.{IsWrittenText};
 
 use crate::scan::{Awaits, digits_left, is_item};
@@ -100,7 +100,8 @@ fn before_item() -> Place
 }
 
 fn name(out: &mut Vec<u8>, iri: bool, code: u32) -> Result<Option<Place>, OutOfMemory>
-    ensures { IfOk result (λ r. MatchOption r (with_named iri out.old.items code ≡ None) (λ p. (with_named iri out.old.items code ≡ Some (out.new.items, p.awaits, p.value)) × (p.value ≡ 0))) }
+    ensures { IfOk result (λ r. MatchOption r (with_named iri out.old.items code ≡ None) (λ p.
+        (with_named iri out.old.items code ≡ Some (out.new.items, p.awaits, p.value)) × (p.value ≡ 0))) }
 {
     if !is_nameable(iri, code) {
         return Ok(None);
@@ -110,7 +111,8 @@ fn name(out: &mut Vec<u8>, iri: bool, code: u32) -> Result<Option<Place>, OutOfM
 }
 
 fn push(out: &mut Vec<u8>, b: u8) -> Result<Option<Place>, OutOfMemory>
-    ensures { IfOk result (λ r. (r ≡ Some (record { awaits = Item; value = 0 })) × (out.new.items ≡ out.old.items ++ b ∷ [])) }
+    ensures { IfOk result (λ r. (r ≡ Some (record { awaits = Item; value = 0 }))
+        × (out.new.items ≡ out.old.items ++ b ∷ [])) }
 {
     out.push(b)?;
     Ok(Some(before_item()))
@@ -118,7 +120,7 @@ fn push(out: &mut Vec<u8>, b: u8) -> Result<Option<Place>, OutOfMemory>
 
 fn digit(out: &mut Vec<u8>, iri: bool, more: u8, value: u32) -> Result<Option<Place>, OutOfMemory>
     requires { value ≤ 0x110000 }
-    ensures { IfOk result (λ r. MatchOption r (after_digit iri out.old.items more value ≡ None) (λ p. (after_digit iri out.old.items more value ≡ Some (out.new.items, p.awaits, p.value)) × (p.value ≤ 0x110000))) }
+    ensures { IfOk result (ComesTo (after_digit iri out.old.items more value) out.new.items) }
 {
     if more == 0 {
         name(out, iri, value)
@@ -137,7 +139,7 @@ fn resolve_step(
     b: u8,
 ) -> Result<Option<Place>, OutOfMemory>
     requires { place.value ≤ 0x110000 }
-    ensures { IfOk result (λ r. MatchOption r (resolve_step iri out.old.items place.awaits place.value b ≡ None) (λ p. (resolve_step iri out.old.items place.awaits place.value b ≡ Some (out.new.items, p.awaits, p.value)) × (p.value ≤ 0x110000))) }
+    ensures { IfOk result (ComesTo (resolve_step iri out.old.items place.awaits place.value b) out.new.items) }
 {
     match place.awaits {
         Awaits::Item => {
@@ -171,7 +173,8 @@ fn resolve_item<'a>(
     iri: bool,
     bytes: &'a [u8],
 ) -> Result<Option<&'a [u8]>, OutOfMemory>
-    ensures value { IfOk result (λ r. MatchOption r (resolve_from iri out.old.items Item 0 bytes.now ≡ None) (λ rest. resolve_from iri out.old.items Item 0 bytes.now ≡ resolve_from iri out.new.items Item 0 rest.now)) }
+    ensures value { IfOk result (λ r. MatchOption r (resolve_from iri out.old.items Item 0 bytes.now ≡ None)
+        (λ rest. resolve_from iri out.old.items Item 0 bytes.now ≡ resolve_from iri out.new.items Item 0 rest.now)) }
     ensures shorter { IfOk result (λ r. IfSome r (λ rest. 0 < length bytes.now → length rest.now < length bytes.now)) }
 {
     let mut place = before_item();
@@ -196,7 +199,8 @@ fn backslash(bytes: &[u8]) -> Option<usize>
 }
 
 fn resolve_all(alloc: Global, bytes: &[u8], iri: bool) -> Result<Option<Vec<u8>>, OutOfMemory>
-    ensures { IfOk result (λ r. MatchOption r (resolve_from iri [] Item 0 bytes.now ≡ None) (λ v. resolve_from iri [] Item 0 bytes.now ≡ Some v.items)) }
+    ensures { IfOk result (λ r. MatchOption r (resolve_from iri [] Item 0 bytes.now ≡ None)
+        (λ v. resolve_from iri [] Item 0 bytes.now ≡ Some v.items)) }
 {
     let mut out = Vec::with_capacity(alloc, bytes.len())?;
     let mut rest = bytes;

@@ -16,7 +16,7 @@ pub enum Why {
     RelativeIri,
     /// A literal has the datatype rdf:langString, which comes by a tag alone (RDF 1.1 Concepts 3.3).
     LangString,
-    /// A term's canonical text has more bytes than the reader takes, or a label has more than 1024.
+    /// A term's canonical text has more bytes than the reader takes, or a label has more than `LONGEST_LABEL` (1024).
     TermTooLong,
 }
 

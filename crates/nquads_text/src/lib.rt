@@ -17,6 +17,7 @@
 mod escape;
 mod fault;
 mod lanes;
+pub mod laws;
 mod line;
 mod loose;
 mod raw;
@@ -26,7 +27,5 @@ mod write;
 
 pub use fault::{TextFault, Why};
 pub use line::LineFault;
-pub use text::{
-    after_end, line_end, one_of_two, read_all, read_line, what_is_read_is_readable, without_lf,
-};
-pub use write::{canonical, canonical_text_reads_back, write_quad};
+pub use text::{after_end, line_end, read_all, read_line, without_lf};
+pub use write::{canonical, write_quad};

@@ -110,9 +110,9 @@ pub fn line_read(alloc: Global, line: &[u8], longest: usize) -> Result<Option<Qu
     match line_form(line) {
         None => Err(LineFault::Bad(Why::Statement)),
         Some(None) => Ok(None),
-        Some(Some(raw)) => match quad_of(alloc, &raw, longest) {
-            Err(fault) => Err(fault),
-            Ok(quad) => Ok(Some(quad)),
-        },
+        Some(Some(raw)) => {
+            let quad = quad_of(alloc, &raw, longest)?;
+            Ok(Some(quad))
+        }
     }
 }

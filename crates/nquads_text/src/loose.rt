@@ -15,7 +15,7 @@ ghost use Rattle.nquads_text.specs.Views.{kind_view, term_view, quad_view, loose
 use crate::escape::{copied, resolved};
 use crate::fault::Why;
 use crate::raw::{RawKind, RawQuad, RawTerm};
-use rdf_terms::{has_scheme, is_lang_string, is_xsd_string, lowered, marks};
+use rdf_terms::{LONGEST_LABEL, has_scheme, is_lang_string, is_xsd_string, lowered, marks};
 use std::alloc::Global;
 use std::str;
 use text_base::{OutOfMemory, Text};
@@ -128,7 +128,8 @@ fn graph_of(
     graph: Option<RawTerm<'_>>,
 ) -> Result<Option<Option<LooseTerm>>, OutOfMemory>
     requires { IsWrittenGraph (option_map term_view graph) }
-    ensures { IfOk result (λ r. option_map (option_map loose_term) r ≡ resolved_graph (option_map term_view graph.entry)) }
+    ensures { IfOk result
+        (λ r. option_map (option_map loose_term) r ≡ resolved_graph (option_map term_view graph.entry)) }
 {
     match graph {
         None => Ok(Some(None)),
@@ -240,7 +241,7 @@ impl LooseTerm {
         ensures { result ≡ has_long_label (loose_term self.now) }
     {
         match self {
-            LooseTerm::Blank(label) => label.as_str().len() > 1024,
+            LooseTerm::Blank(label) => label.as_str().len() > LONGEST_LABEL,
             _ => false,
         }
     }

@@ -77,7 +77,8 @@ fn tag_part(bytes: &[u8]) -> Option<(&[u8], &[u8])>
 /// What stands after `^^`.
 #[tactic(auto, unfolding(crate::specs::Raw::datatype_part))]
 fn datatype_part(bytes: &[u8]) -> Option<(&[u8], &[u8])>
-    ensures { MatchOption result (datatype_part bytes.now ≡ None) (λ p. datatype_part bytes.now ≡ Some (p.0.now, p.1.now)) }
+    ensures { MatchOption result (datatype_part bytes.now ≡ None)
+        (λ p. datatype_part bytes.now ≡ Some (p.0.now, p.1.now)) }
 {
     let second = opened(bytes, b'^')?;
     let inside = opened(second, b'^')?;
@@ -100,7 +101,8 @@ fn kind_part(bytes: &[u8]) -> (RawKind<'_>, &[u8])
 
 #[tactic(auto, unfolding(crate::specs::Raw::literal_part))]
 fn literal_part(bytes: &[u8]) -> Option<(RawTerm<'_>, &[u8])>
-    ensures { MatchOption result (literal_part bytes.now ≡ None) (λ p. literal_part bytes.now ≡ Some (term_view p.0, p.1.now)) }
+    ensures { MatchOption result (literal_part bytes.now ≡ None)
+        (λ p. literal_part bytes.now ≡ Some (term_view p.0, p.1.now)) }
 {
     let (form, after) = form_part(bytes)?;
     let (kind, rest) = kind_part(after);
@@ -110,7 +112,8 @@ fn literal_part(bytes: &[u8]) -> Option<(RawTerm<'_>, &[u8])>
 /// A subject, or a graph.
 #[tactic(auto, unfolding(crate::specs::Raw::node_part))]
 fn node_part(bytes: &[u8]) -> Option<(RawTerm<'_>, &[u8])>
-    ensures { MatchOption result (node_part bytes.now ≡ None) (λ p. node_part bytes.now ≡ Some (term_view p.0, p.1.now)) }
+    ensures { MatchOption result (node_part bytes.now ≡ None)
+        (λ p. node_part bytes.now ≡ Some (term_view p.0, p.1.now)) }
 {
     match iri_part(bytes) {
         Some((text, rest)) => Some((RawTerm::Iri(text), rest)),
@@ -123,7 +126,8 @@ fn node_part(bytes: &[u8]) -> Option<(RawTerm<'_>, &[u8])>
 
 #[tactic(auto, unfolding(crate::specs::Raw::object_part))]
 fn object_part(bytes: &[u8]) -> Option<(RawTerm<'_>, &[u8])>
-    ensures { MatchOption result (object_part bytes.now ≡ None) (λ p. object_part bytes.now ≡ Some (term_view p.0, p.1.now)) }
+    ensures { MatchOption result (object_part bytes.now ≡ None)
+        (λ p. object_part bytes.now ≡ Some (term_view p.0, p.1.now)) }
 {
     match node_part(bytes) {
         Some(found) => Some(found),

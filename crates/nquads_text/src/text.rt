@@ -8,7 +8,6 @@ ghost use Rattle.nquads_text.specs.declared.fault.Why.{Why};
 ghost use Rattle.nquads_text.specs.Reads.{lines_of, Reads, FirstFault, RefusedFor, IsOkOrMemory, IsBadOrMemory};
 ghost use Rattle.nquads_text.specs.Lines.{read_lines, text_read, Gives, AddsLine, line_end, without_lf, after_end};
 ghost use Rattle.nquads_text.specs.Line.{line_read};
-ghost use Rattle.nquads_text.specs.Laws.{IsReadOrFaulty, IsNotBoth, ReadIsReadable};
 
 use crate::fault::TextFault;
 use crate::line::{LineFault, line_read};
@@ -126,19 +125,10 @@ pub fn read_all(alloc: Global, bytes: &[u8], longest: usize) -> Result<Vec<Quad>
     // What is refused.
     ensures refused { RefusedFor (FirstFault bytes.now longest) result }
     // It is read or refused exactly so, unless memory runs out.
-    ensures only_read { (quads : List Quad) → Reads bytes.now longest quads → IsOkOrMemory (λ v. v.items ≡ quads) result }
-    ensures only_refused { (line : ℕ) (why : Why) → FirstFault bytes.now longest line why → IsBadOrMemory line why result }
+    ensures only_read { (quads : List Quad) → Reads bytes.now longest quads
+        → IsOkOrMemory (λ v. v.items ≡ quads) result }
+    ensures only_refused { (line : ℕ) (why : Why) → FirstFault bytes.now longest line why
+        → IsBadOrMemory line why result }
 {
     read_exactly(alloc, bytes, longest)
 }
-
-/// A text has a reading or a first fault, and not both.
-pub fn one_of_two()
-    ensures one { IsReadOrFaulty }
-    ensures not_both { IsNotBoth }
-{}
-
-/// The quads of a text that is read have RDF's classes, terms that keep the rules of their parts, and texts within the limits.
-pub fn what_is_read_is_readable()
-    ensures { ReadIsReadable }
-{}

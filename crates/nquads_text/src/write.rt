@@ -3,7 +3,6 @@ ghost use Rattle.std.specs.Prelude.{ℕ, ◌≡◌, ◌<◌, ◌∷◌, ◌++◌
 ghost use Rattle.rdf_terms.specs.Canon.{is_marked, canonical_byte, canonical_form, canonical_kind, canonical_term, canonical_graph, canonical_line};
 ghost use Rattle.nquads_text.specs.Scan.{first_place};
 ghost use Rattle.list_laws.specs.Begins.{Begins};
-ghost use Rattle.nquads_text.specs.Laws.{CanonReadsBack};
 
 use rdf_terms::{Kind, Quad, Term, Triple, after_mark, is_marked};
 use text_base::OutOfMemory;
@@ -55,7 +54,8 @@ fn mark_place(form: &[u8]) -> Option<usize>
 fn push_run<'a>(form: &'a [u8], n: usize, out: &mut Vec<u8>) -> Result<&'a [u8], OutOfMemory>
     requires place { first_place is_marked 0 form.now ≡ Some n }
     requires within { n < length form.now }
-    ensures ok { IfOk result (λ rest. out.new.items ++ canonical_form rest.now ≡ out.old.items ++ canonical_form form.now) }
+    ensures ok { IfOk result
+        (λ rest. out.new.items ++ canonical_form rest.now ≡ out.old.items ++ canonical_form form.now) }
     ensures shorter { IfOk result (λ rest. length rest.now < length form.now) }
     ensures front { Begins out.old.items out.new.items }
 {
@@ -117,7 +117,8 @@ fn push_quoted(form: &str, out: &mut Vec<u8>) -> Result<(), OutOfMemory>
 
 #[tactic(auto, using(list_laws::proofs::Begins::begins_on, crate::proofs::Runs::literal_is))]
 fn push_literal(form: &str, kind: &Kind, out: &mut Vec<u8>) -> Result<(), OutOfMemory>
-    ensures ok { OnOk result (out.new.items ≡ out.old.items ++ 34 ∷ (canonical_form form.now ++ 34 ∷ canonical_kind kind.now)) }
+    ensures ok { OnOk result (out.new.items
+        ≡ out.old.items ++ 34 ∷ (canonical_form form.now ++ 34 ∷ canonical_kind kind.now)) }
     ensures front { Begins out.old.items out.new.items }
 {
     push_quoted(form, out)?;
@@ -170,7 +171,9 @@ fn push_spaced(term: &Term, out: &mut Vec<u8>) -> Result<(), OutOfMemory>
 
 #[tactic(auto, using(list_laws::proofs::Begins::begins_on, crate::proofs::Runs::triple_is))]
 fn push_triple(triple: &Triple, out: &mut Vec<u8>) -> Result<(), OutOfMemory>
-    ensures ok { OnOk result (out.new.items ≡ out.old.items ++ (canonical_term triple.now.subject ++ 32 ∷ (canonical_term triple.now.predicate ++ 32 ∷ canonical_term triple.now.object))) }
+    ensures ok { OnOk result (out.new.items ≡ out.old.items
+        ++ (canonical_term triple.now.subject
+        ++ 32 ∷ (canonical_term triple.now.predicate ++ 32 ∷ canonical_term triple.now.object))) }
     ensures front { Begins out.old.items out.new.items }
 {
     push_spaced(&triple.subject, out)?;
@@ -228,8 +231,3 @@ pub fn write_quad(quad: &Quad, out: &mut Vec<u8>) -> Result<(), OutOfMemory>
     let written = push_quad(quad, out);
     taken_back(written, before, out)
 }
-
-/// The canonical text of quads that a text can be read as is read as these quads.
-pub fn canonical_text_reads_back()
-    ensures { CanonReadsBack }
-{}

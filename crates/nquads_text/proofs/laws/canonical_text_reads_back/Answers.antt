@@ -1,5 +1,5 @@
 use Rattle.nquads_text.proofs.RoundTrip.{read_again}
-use Rattle.nquads_text.proofs.write.canonical_text_reads_back.Goals as goal
+use Rattle.nquads_text.proofs.laws.canonical_text_reads_back.Goals as goal
 
 pub returns : goal.returns
 returns c = read_again
