@@ -13,6 +13,8 @@ use Rattle.nquads_text.specs.Lines.{with_quad, line_end, without_lf, after_end}
 use Rattle.quad_feed.specs.Feed.{Fed, last_number, is_inside, ends_lines, TakesLines}
 use Rattle.quad_feed.specs.Pieces.{is_cut_end, reading, ReadsEnded}
 use Rattle.nquads_text.proofs.LineLaws.{line_reads}
+use Rattle.nquads_text.proofs.Lines.{first_by, onto_append}
+use Rattle.nquads_text.proofs.ReadLaws.{reads_append}
 use Rattle.quad_feed.proofs.PieceLaws.{end_at, next_lines, one_line}
 use Rattle.quad_feed.proofs.FedLaws.{made, before_piece, cr_front}
 
@@ -51,17 +53,8 @@ end_parts b tail (inr cr) = subst (λ (k : ℕ). LineEnd (k ∷ tail)) (sym cr) 
 
 -- ---- lines before and after a line end
 
-first_by : (lf cr : Bool) (c : ℕ) (x y z : List (List ℕ)) → (l : List ℕ) × (ls : List (List ℕ)) × ((if lf then [] ∷ x else (if cr then [] ∷ y else onto_first c z)) ≡ l ∷ ls)
-first_by true cr c x y z = ([], x, refl)
-first_by false true c x y z = ([], y, refl)
-first_by false false c x y [] = (c ∷ [], [], refl)
-first_by false false c x y (l ∷ ls) = (c ∷ l, ls, refl)
-
 first_line : (c : ℕ) (cs : List ℕ) → (l : List ℕ) × (ls : List (List ℕ)) × (lines_from false (c ∷ cs) ≡ l ∷ ls)
 first_line c cs = first_by (nat_eq c 10) (nat_eq c 13) c (lines_from false cs) (lines_from true cs) (lines_from false cs)
-
-onto_append : (b : ℕ) (lines more : List (List ℕ)) → (l : List ℕ) × (ls : List (List ℕ)) × (lines ≡ l ∷ ls) → onto_first b (lines ++ more) ≡ onto_first b lines ++ more
-onto_append b lines more f = subst (λ (x : List (List ℕ)). onto_first b (x ++ more) ≡ onto_first b x ++ more) (sym f.2) refl
 
 abbrev Splits : Bool → List ℕ → List ℕ → Type 0
 Splits cr xs ys = (after : Bool) × (lines_from cr (xs ++ ys) ≡ lines_from cr xs ++ lines_from after ys)
@@ -139,11 +132,6 @@ one_ended longest n m quads new kept bytes place q e h r w k =
       quads_are = w ∙ added quads q ∙ ap (λ (l : List Quad). quads ++ l) (sym (append-nil (option_to_list q)));
       number = k;
     }
-
-reads_append : (longest : ℕ) (xs ys : List (List ℕ)) (p q : List Quad) → ReadsLines longest xs p → ReadsLines longest ys q → ReadsLines longest (xs ++ ys) (p ++ q)
-reads_append longest [] ys p q h k = subst (λ (l : List Quad). ReadsLines longest ys (l ++ q)) (sym h) k
-reads_append longest (x ∷ xs) ys p q h k =
-    (h.0, h.1 ++ q, h.2, reads_append longest xs ys h.1 q h.3 k, ap (λ (l : List Quad). l ++ q) h.4 ∙ append_assoc (option_to_list h.0) h.1 q)
 
 pub ended_on : (longest n m k : ℕ) (quads mid new : List Quad) (bytes rest left : List ℕ) (cr : Bool) → ReadsEnded longest quads n bytes mid m false rest → ReadsEnded longest mid m rest new k cr left → ReadsEnded longest quads n bytes new k cr left
 ended_on longest n m k quads mid new bytes rest left cr a b = record {

@@ -4,7 +4,6 @@ ghost use Rattle.std.specs.List.{list_all};
 ghost use Rattle.rdf_terms.specs.declared.term.Quad.{Quad};
 ghost use Rattle.nquads_text.specs.declared.fault.Why.{Why};
 ghost use Rattle.quad_feed.specs.Feed.{is_inside, last_number, nothing_fed, ReadsWith, FaultWith};
-ghost use Rattle.quad_feed.specs.Laws.{BeginsWithText};
 ghost use Rattle.quad_feed.specs.Pieces.{is_cut_end, reading, fed_reading, ReadsEnded};
 ghost use Rattle.nquads_text.specs.Lines.{AddsLine, Gives, line_end, without_lf};
 ghost use Rattle.nquads_text.specs.Line.{line_read};
@@ -286,8 +285,3 @@ impl QuadFeed {
         )
     }
 }
-
-/// A feed before its first piece reads what comes as the whole text is read.
-pub fn a_feed_begins_with_the_text()
-    ensures { BeginsWithText }
-{}

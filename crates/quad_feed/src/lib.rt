@@ -12,5 +12,6 @@
 #![tactic(auto)]
 
 mod feed;
+pub mod laws;
 
-pub use feed::{QuadFeed, a_feed_begins_with_the_text};
+pub use feed::QuadFeed;

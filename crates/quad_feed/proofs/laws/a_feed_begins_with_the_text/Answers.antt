@@ -3,7 +3,7 @@ use Rattle.rdf_terms.specs.declared.term.Quad.{Quad}
 use Rattle.nquads_text.specs.declared.fault.Why.{Why}
 use Rattle.nquads_text.specs.Reads.{Reads, FirstFault}
 use Rattle.quad_feed.specs.Feed.{last_number, nothing_fed, ReadsWith, FaultWith}
-use Rattle.quad_feed.proofs.feed.a_feed_begins_with_the_text.Goals as goal
+use Rattle.quad_feed.proofs.laws.a_feed_begins_with_the_text.Goals as goal
 
 reads : (longest : ℕ) (bytes : List ℕ) (quads : List Quad) → ReadsWith (nothing_fed longest) bytes quads → Reads bytes longest quads
 unfolding nothing_fed
