@@ -3,7 +3,6 @@ ghost use Rattle.std.specs.Prelude.{ℕ, ◌≡◌, ◌↔◌, ◌++◌, List, [
 ghost use Rattle.std.specs.List.{Contains};
 ghost use Rattle.std.specs.List.Sorted.{IsStrictlySortedBy};
 ghost use Rattle.rdf_terms.specs.declared.term.Term.TheVariants as terms;
-ghost use Rattle.rdf_terms.specs.declared.term.Triple.{Triple};
 ghost use Rattle.rdf_terms.specs.Order.{bytes_order};
 ghost use Rattle.rdf_terms.specs.Triples.{IsRdfQuad};
 ghost use Rattle.tpf_base.specs.Addresses.{IsAuthority};
@@ -11,7 +10,6 @@ ghost use Rattle.triple_table.specs.Chosen.{chosen};
 ghost use Rattle.triple_table.specs.Genid.{skolem_triple};
 ghost use Rattle.triple_table.specs.Labels.{texts};
 ghost use Rattle.triple_table.specs.Served.{terms_of, Clashes, IsLeastClash, IsServed};
-ghost use Rattle.triple_table.specs.Short.{AuthoritiesAreShort, ServedAreShort};
 
 use crate::Choice;
 use crate::genid::skolem_triple;
@@ -145,22 +143,3 @@ pub fn served(
     triples.dedup();
     Ok(triples)
 }
-
-/// The served data are one list: what `served` and `Table::build` give is fixed by the authority and the
-/// chosen triples.
-pub fn served_is_one()
-    ensures { (authority : List ℕ) (triples xs ys : List Triple) → IsServed authority triples xs →
-        IsServed authority triples ys → xs ≡ ys }
-{}
-
-/// Where each term of the quads has a canonical text of at most so many bytes, and each label at most 1024 bytes, then
-/// each term that is served has such a canonical text, if the IRIs of blank nodes fit too: they have at most 1052 bytes
-/// beside their authority.
-pub fn served_terms_are_short()
-    ensures { ServedAreShort }
-{}
-
-/// An authority has at most 261 bytes: a host of at most 255, a colon and a port of at most five digits.
-pub fn authorities_are_short()
-    ensures { AuthoritiesAreShort }
-{}

@@ -21,6 +21,7 @@ mod gather;
 mod genid;
 mod ids;
 mod labels;
+pub mod laws;
 mod ranking;
 mod recent;
 mod rows;
@@ -28,8 +29,6 @@ mod table;
 mod term_list;
 
 pub use choice::Choice;
-pub use data_set::{
-    BuildFault, authorities_are_short, served, served_is_one, served_terms_are_short,
-};
+pub use data_set::{BuildFault, served};
 pub use ids::{IdPattern, IdTriple, Order, Range};
 pub use table::Table;
