@@ -8,6 +8,7 @@
 //! ```
 #![tactic(auto)]
 
+pub mod laws;
 mod server;
 
-pub use server::{generated_data_are_small, server_of_generated};
+pub use server::server_of_generated;

@@ -10,23 +10,17 @@ ghost use Rattle.triple_table.specs.Served.{IsServed};
 ghost use Rattle.triple_table.specs.Stored.{triples_in};
 ghost use Rattle.fragment_server.specs.Fragments.{serving_of};
 ghost use Rattle.generated_data.specs.Generated.{generated};
-ghost use Rattle.generated_server.specs.Starts.{StartsGenerated, GeneratedAreSmall};
+ghost use Rattle.generated_server.specs.Starts.{StartsGenerated};
 
 use fragment_server::FragmentServer;
 use generated_data::write_generated;
 use hydra_controls::Config;
-use nquads_text::{TextFault, canonical_text_reads_back, read_all};
-use rdf_terms::Quad;
+use nquads_text::{TextFault, laws, read_all};
+use rdf_terms::{LONGEST_TERM, MOST_TRIPLES, Quad};
 use std::alloc::Global;
 use tpf_base::{Failing, Fault, MemSink, OutOfMemory};
 use tpf_server::Server;
-use triple_table::{BuildFault, Choice, Table, authorities_are_short, served_terms_are_short};
-
-/// The most bytes of the canonical text of a term, as of a file of data.
-const LONGEST_TERM: usize = 262144;
-
-/// The most triples, and the most terms, that are served.
-const MOST_TRIPLES: u32 = 16777215;
+use triple_table::{BuildFault, Choice, Table};
 
 /// The text of the data of so many persons, in a sink that never fails.
 fn generated_text(alloc: Global, persons: u32) -> Result<MemSink, OutOfMemory>
@@ -47,7 +41,7 @@ fn generated_quads(alloc: Global, persons: u32) -> Result<Vec<Quad>, OutOfMemory
     ensures classes { IfOk result (λ v. All IsRdfQuad v.items) }
 {
     let text = generated_text(alloc, persons)?;
-    canonical_text_reads_back();
+    laws::canonical_text_reads_back();
     match read_all(alloc, text.taken(), LONGEST_TERM) {
         Ok(quads) => Ok(quads),
         Err(TextFault::OutOfMemory) => Err(OutOfMemory),
@@ -103,13 +97,4 @@ pub fn server_of_generated(
     let table = table_of(alloc, persons, &config)?;
     let server = Server::new(alloc, table, config)?;
     Ok(FragmentServer::new(server))
-}
-
-/// The data of at most 1000000 persons have at most 3000000 triples, whose terms have canonical texts of
-/// at most 262144 bytes, as those of a file that is served.
-pub fn generated_data_are_small()
-    ensures { GeneratedAreSmall }
-{
-    served_terms_are_short();
-    authorities_are_short();
 }
