@@ -25,10 +25,6 @@ mod row;
 mod solve;
 
 pub use asking::{askable, bound_places, instance, instance_askable};
-pub use laws::{
-    data_sets_are_distinct, extension_is_one, extensions_commute, fragments_suffice,
-    merging_is_union, pattern_order_is_free, triple_order_is_free,
-};
 pub use matching::{fits, match_triple};
 pub use pattern::{Part, Pattern, Query, copy_patterns};
 pub use row::Row;
