@@ -43,6 +43,22 @@ pub record Writing : Type 0 where
   pub has_rows : Bool
   pub pending : List ℕ
 
+-- no row was given yet, and what stands in front of the rows is pending
+abbrev pub begun : QueryData → Writing
+begun q = record { query = q; has_rows = false; pending = front_text q }
+
+-- a row was given
+abbrev pub with_row : Writing → List (Option Term) → Writing
+with_row w row = record { query = w.query; has_rows = true; pending = w.pending ++ row_piece w.query w.has_rows row }
+
+-- the end was given
+abbrev pub with_end : Writing → Writing
+with_end w = record { query = w.query; has_rows = w.has_rows; pending = w.pending ++ end_text }
+
+-- all that was pending was given to a sink
+abbrev pub with_nothing_pending : Writing → Writing
+with_nothing_pending w = record { query = w.query; has_rows = w.has_rows; pending = [] }
+
 -- ---- the laws
 
 -- the text of a result is made of its pieces

@@ -16,9 +16,8 @@
 #![tactic(auto)]
 
 mod columns;
-mod laws;
+pub mod laws;
 mod tokens;
 mod writer;
 
-pub use laws::{pieces_make_the_text, rows_go_on};
 pub use writer::{ResultWriter, result_text};

@@ -76,7 +76,8 @@ fn put_bound(writer: &mut Writer, name: &str, term: &Term) -> Result<(), AllocEr
 
 /// A member for a column of a row, where the row binds it.
 fn put_column(writer: &mut Writer, names: &[Text], n: u32, row: &Row) -> Result<(), AllocError>
-    ensures tokens { OnOk result (writer.new.tokens ≡ writer.old.tokens ++ bound_member (name_at names.now n) (term_at row.now n)) }
+    ensures tokens { OnOk result (writer.new.tokens ≡
+        writer.old.tokens ++ bound_member (name_at names.now n) (term_at row.now n)) }
     ensures before { writer.new.before ≡ writer.old.before }
 {
     match row.term(n) {

@@ -1,9 +1,9 @@
 // A result that is written row by row.
-ghost use Rattle.std.specs.Prelude.{◌≡◌, true, false, [], ◌++◌, IfOk, OnOk, OnErr, codes, if◌then◌else◌};
+ghost use Rattle.std.specs.Prelude.{◌≡◌, [], ◌++◌, IfOk, OnOk, OnErr, codes, if◌then◌else◌};
 ghost use Rattle.json.specs.Print.{print};
 ghost use Rattle.tpf_base.specs.Wrote.{WritesWhole};
 ghost use Rattle.result_json.specs.Results.{row_object, result_text};
-ghost use Rattle.result_json.specs.Pieces.{front_text, row_piece, end_text};
+ghost use Rattle.result_json.specs.Pieces.{begun, front_text, with_end, with_nothing_pending, with_row};
 
 use crate::columns::columns_of;
 use crate::tokens::{put_front, put_row};
@@ -54,7 +54,8 @@ fn append_row(
     row: &Row,
     text: &mut Vec<u8>,
 ) -> Result<(), OutOfMemory>
-    ensures ok { OnOk result (text.new.items ≡ text.old.items ++ print (row_object query.now.names columns.now row.now)) }
+    ensures ok { OnOk result (text.new.items ≡
+        text.old.items ++ print (row_object query.now.names columns.now row.now)) }
     ensures err { OnErr result (text.new.items ≡ text.old.items) }
 {
     let before = text.len();
@@ -85,7 +86,7 @@ impl<'a> ResultWriter<'a> {
     /// A result of a query with no row yet: what stands in front of the rows is pending. The only error is out
     /// of memory.
     pub fn begin(alloc: Global, query: &'a Query) -> Result<ResultWriter<'a>, OutOfMemory>
-        ensures { IfOk result (λ w. w ≡ record { query = query.now; has_rows = false; pending = front_text query.now }) }
+        ensures { IfOk result (λ w. w ≡ begun query.now) }
     {
         let columns = columns_of(alloc, query)?;
         let text = front(alloc, query)?;
@@ -102,7 +103,7 @@ impl<'a> ResultWriter<'a> {
     /// binds, in the order of the names' bytes (section 3.2.1). The only error is out of memory, and then the writer is as it
     /// was.
     pub fn row(&mut self, row: &Row) -> Result<(), OutOfMemory>
-        ensures ok { OnOk result (self.new ≡ record { query = self.old.query; has_rows = true; pending = self.old.pending ++ row_piece self.old.query self.old.has_rows row.now }) }
+        ensures ok { OnOk result (self.new ≡ with_row self.old row.now) }
         ensures err { OnErr result (self.new ≡ self.old) }
     {
         let before = self.text.len();
@@ -121,7 +122,7 @@ impl<'a> ResultWriter<'a> {
 
     /// Adds the end of the text, `]}}` and LF. The only error is out of memory, and then the writer is as it was.
     pub fn finish(&mut self) -> Result<(), OutOfMemory>
-        ensures ok { OnOk result (self.new ≡ record { query = self.old.query; has_rows = self.old.has_rows; pending = self.old.pending ++ end_text }) }
+        ensures ok { OnOk result (self.new ≡ with_end self.old) }
         ensures err { OnErr result (self.new ≡ self.old) }
     {
         self.text.extend_from_slice(b"]}}\n")?;
@@ -139,7 +140,7 @@ impl<'a> ResultWriter<'a> {
     /// of them. `Failed` only where the sink's count of faults rose in this call, and never over a faultless sink.
     pub fn give<K: Sink>(&mut self, out: &mut K) -> Result<(), Fault>
         ensures writes { WritesWhole self.old.pending (K.state out.old) (K.state out.new) result }
-        ensures given { self.new ≡ record { query = self.old.query; has_rows = self.old.has_rows; pending = [] } }
+        ensures given { self.new ≡ with_nothing_pending self.old }
     {
         let given = write_all(out, &self.text);
         self.text.clear();
