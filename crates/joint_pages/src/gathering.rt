@@ -70,7 +70,8 @@ fn owned(alloc: Global, taken: Option<Rc<TripleSet>>) -> Result<TripleSet, OutOf
 
 /// Takes out the first address, if there is one.
 fn first_of(wanted: &mut VecDeque<WebAddress>) -> Option<WebAddress>
-    ensures { MatchOption result ((wanted.old.items ≡ []) × (wanted.new.items ≡ [])) (λ address. wanted.old.items ≡ address ∷ wanted.new.items) }
+    ensures { MatchOption result ((wanted.old.items ≡ []) × (wanted.new.items ≡ []))
+        (λ address. wanted.old.items ≡ address ∷ wanted.new.items) }
 {
     wanted.pop_front()
 }
@@ -110,7 +111,8 @@ fn place_in(parts: &[Part], ticket: u64) -> Option<usize>
 /// Puts the page of the part at a place.
 fn put_at(parts: &mut Vec<Part>, place: usize, page: Page)
     requires { place < length parts.old.items }
-    ensures { (part : PartData) → part ≡ slice_index_or parts.old.items place part → parts.new.items ≡ slice_set parts.old.items place (came part page) }
+    ensures { (part : PartData) → part ≡ slice_index_or parts.old.items place part →
+        parts.new.items ≡ slice_set parts.old.items place (came part page) }
 {
     parts[place].put(page);
 }
@@ -188,7 +190,8 @@ impl Gathering {
     /// each page is true for the servers, it is the page of the round of all servers together. The only error is out of memory.
     pub fn joint_page(self, alloc: Global, alone: bool) -> Result<JointPage, OutOfMemory>
         ensures joined { IfOk result (λ page. page ≡ joined_as alone self.taken (pages_in self.parts)) }
-        ensures together { (worlds : List World) → AreServers worlds → alone ≡ is_one worlds → HoldsTrue worlds self → is_whole self ≡ true → IfOk result (IsJointPageOf worlds self) }
+        ensures together { (worlds : List World) → AreServers worlds → alone ≡ is_one worlds →
+            HoldsTrue worlds self → is_whole self ≡ true → IfOk result (IsJointPageOf worlds self) }
     {
         if alone {
             return Ok(only_page(alloc, self.parts));
