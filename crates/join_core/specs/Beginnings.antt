@@ -1,22 +1,14 @@
 -- What an evaluation owes before its first turn.
-use Rattle.std.specs.Prelude.{ℕ, ◌≡◌, List, [], length, replicate, Option, None}
+use Rattle.std.specs.Prelude.{ℕ, ◌≡◌, List, [], length, Option}
 use Rattle.std.specs.List.Sorted.{IsPermutation}
-use Rattle.rdf_terms.specs.declared.term.Triple.{Triple}
 use Rattle.tpf_base.specs.Addresses.{Address}
 use Rattle.template_fill.specs.declared.form.Form.{Form}
 use Rattle.bgp_core.specs.Queries.{QueryData}
-use Rattle.bgp_core.specs.Solutions.{Places, solutions}
+pub use Rattle.bgp_core.specs.Solutions.{no_names_bound, solutions_of}
+use Rattle.bgp_core.specs.Solutions.{Places}
 use Rattle.join_core.specs.Worlds.{World, IsWorld, IsOneServer, HasForms}
 use Rattle.join_core.specs.Nodes.{plan}
 use Rattle.join_core.specs.Evaluations.{Account, Terms, Sizes}
-
--- the row with a place for each name of a query, none of which is bound
-abbrev pub no_names_bound : QueryData → Places
-no_names_bound q = replicate (length q.names) None
-
--- the solutions of a query over a data set (SPARQL 1.1 Query, 18.5), each with all its names
-abbrev pub solutions_of : List Triple → QueryData → List Places
-solutions_of triples q = solutions triples q.patterns (no_names_bound q)
 
 -- the asks keep to these authorities, and each row has a place for each name of the query
 abbrev pub terms_of : List Address → QueryData → Terms

@@ -23,8 +23,8 @@ use tpf_base::OutOfMemory;
 /// The most bytes of the target of a request for a block of several rows.
 pub const LONGEST_TARGET: usize = 65536;
 
-/// The most rows for which one request asks: from 1, which is row by row, to 64. Contracts see it
-/// as that number.
+/// The most rows for which one request asks: from 1, which is row by row, to `MOST_ROWS` (64).
+/// Contracts see it as that number.
 #[derive(Clone, Copy, Debug, PartialEq, Eq)]
 pub struct BlockSize {
     rows: usize,
@@ -51,8 +51,8 @@ impl BlockSize {
         BlockSize { rows: 1 }
     }
 
-    /// At most so many rows; `None` exactly where that is no number from 1 to 64. It takes no
-    /// memory.
+    /// At most so many rows; `None` exactly where that is no number from 1 to `MOST_ROWS` (64). It
+    /// takes no memory.
     pub fn new(rows: u32) -> Option<BlockSize>
         ensures { MatchOption result ((1 ≤ rows) × (rows ≤ MOST_ROWS) → ⊥) (λ size. size ≡ rows) }
     {
@@ -63,7 +63,7 @@ impl BlockSize {
         Some(BlockSize { rows })
     }
 
-    /// The number, from 1 to 64. It takes no memory.
+    /// The number, from 1 to `MOST_ROWS` (64). It takes no memory.
     pub fn get(self) -> usize
         ensures value { result ≡ self }
         ensures low { 1 ≤ result }

@@ -3,7 +3,8 @@ ghost use Rattle.std.specs.Prelude.{ℕ, ◌≡◌, ◌+◌, ◌-◌, ◌*◌, �
 ghost use Rattle.std.specs.List.{count_by};
 ghost use Rattle.tpf_base.specs.Addresses.{Address};
 ghost use Rattle.join_core.specs.Worlds.{World, IsWorld, HasForms};
-ghost use Rattle.join_core.specs.Beginnings.{no_names_bound, terms_of};
+ghost use Rattle.bgp_core.specs.Solutions.{no_names_bound};
+ghost use Rattle.join_core.specs.Beginnings.{terms_of};
 ghost use Rattle.join_core.specs.Events.{works};
 ghost use Rattle.join_core.specs.Rounds.{FormsAtHome};
 ghost use Rattle.join_core.specs.Evaluations.{Terms, AsksAtHome, NextAtHome};
@@ -73,8 +74,8 @@ impl Join {
     /// The same with nodes of blocks of at most `block` rows, each of which asks for what all its
     /// rows need at once by one address (bindings-restricted Triple Pattern Fragments). The rows
     /// that a page makes are cut from the front into blocks, each the longest for which no target
-    /// of a first page has more than 65536 bytes, and of at least one row. Condition: the window is
-    /// at least 1. The only error is out of memory.
+    /// of a first page has more than `LONGEST_TARGET` bytes (65536), and of at least one row.
+    /// Condition: the window is at least 1. The only error is out of memory.
     pub fn in_blocks(
         alloc: Global,
         query: &Query,

@@ -24,7 +24,7 @@ mod expand;
 mod first;
 mod join;
 mod joint_page;
-mod laws;
+pub mod laws;
 mod level;
 mod levels;
 mod making;
@@ -40,8 +40,5 @@ pub use block::{BlockSize, LONGEST_TARGET};
 pub use evaluation::{Answered, Ask, Evaluates};
 pub use join::Join;
 pub use joint_page::JointPage;
-pub use laws::{
-    a_run_asks_the_plan, a_run_gives_the_solutions, blocks_are_cut, blocks_of_one_are_rows,
-};
 pub use round::{FormList, Round, RoundAsk, TripleSet};
 pub use round_join::RoundJoin;
