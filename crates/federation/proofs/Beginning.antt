@@ -15,7 +15,8 @@ use Rattle.join_core.specs.Sound.{KeepsTo, IsKeptSmall}
 use Rattle.plan_laws.specs.JointWorlds.{joint_world}
 use Rattle.joint_pages.specs.Gatherings.{GatheringData}
 use Rattle.joint_pages.specs.Truths.{AreServers, HoldsTrue}
-use Rattle.join_core.specs.Beginnings.{no_names_bound, BeginsWith}
+use Rattle.bgp_core.specs.Solutions.{no_names_bound}
+use Rattle.join_core.specs.Beginnings.{BeginsWith}
 use Rattle.federation.specs.Beginnings.{joint_rows, joint_plan, most_pages}
 use Rattle.federation.specs.Federations.{FederationData, SuitsAll, KeepsAll, KeepsSmall, KeepsRound, IsItsRound, account_of, times}
 

@@ -3,7 +3,7 @@ ghost use Rattle.std.specs.Prelude.{ℕ, ◌≡◌, ◌+◌, ◌-◌, ◌*◌, �
 ghost use Rattle.tpf_base.specs.Addresses.{Address};
 ghost use Rattle.join_core.specs.Worlds.{World};
 ghost use Rattle.join_core.specs.Rounds.{FormsAtHome};
-ghost use Rattle.join_core.specs.Beginnings.{BeginsWith};
+ghost use Rattle.join_core.specs.Beginnings.{BeginsWith, sizes_of, terms_of};
 ghost use Rattle.federation.specs.Beginnings.{FitWorlds, joint_rows, joint_plan, most_pages};
 ghost use Rattle.federation.specs.Federations.{SuitsAll, KeepsAll, KeepsSmall, account_of, standing_of};
 ghost use Rattle.federation.specs.Steps.{IsFull, HasRoom, BeginsNext, AskedPart, AskedRound, Asks, JoinsRound, Answers, GivesOne};
@@ -13,7 +13,6 @@ use bgp_core::{Query, Row};
 use fragment_page::Page;
 use join_core::{Answered, Ask, FormList, RoundJoin};
 use joint_pages::Gathering;
-use plan_laws::worlds_together_are_a_world;
 use std::alloc::Global;
 use std::marker::Model;
 use template_fill::WebAddress;
@@ -109,13 +108,15 @@ impl Federation {
         requires window { 1 ≤ window }
         requires some { 0 < length forms }
         ensures suits { (worlds : List World) → FitWorlds worlds forms → IfOk result (SuitsAll worlds) }
-        ensures owes { (worlds : List World) → FitWorlds worlds forms → IfOk result (λ f. BeginsWith (joint_rows worlds query.now) (joint_plan worlds query.now) (account_of worlds f)) }
-        ensures keeps { (homes : List Address) → FormsAtHome homes forms → IfOk result (KeepsAll (record { homes = homes; width = length query.now.names })) }
-        ensures small { IfOk result (KeepsSmall (record { patterns = length query.now.patterns; window = window * length forms })) }
+        ensures owes { (worlds : List World) → FitWorlds worlds forms → IfOk result (λ f.
+            BeginsWith (joint_rows worlds query.now) (joint_plan worlds query.now) (account_of worlds f)) }
+        ensures keeps { (homes : List Address) → FormsAtHome homes forms →
+            IfOk result (KeepsAll (terms_of homes query.now)) }
+        ensures small { IfOk result (KeepsSmall (sizes_of query.now (window * length forms))) }
         ensures stands { IfOk result (λ f. ((standing_of f).given ≡ 0) × ((standing_of f).out ≡ [])) }
         ensures most { IfOk result (λ f. f.most ≡ most_pages (length query.now.patterns) window (length forms)) }
     {
-        worlds_together_are_a_world();
+        plan_laws::worlds_together_are_a_world();
         let most = most_awaited(query.patterns().len(), window, &forms);
         let join = RoundJoin::new(alloc, query, forms, window)?;
         Ok(Federation {

@@ -68,7 +68,8 @@ pub(crate) fn find(rounds: &[Gathering], ticket: u64) -> Option<Spot>
 /// Puts a page at its spot, and says whether its round is whole then.
 fn put_at(rounds: &mut Vec<Gathering>, spot: Spot, page: Page) -> bool
     requires { (ticket : ℕ) × AwaitsIn rounds.old.items spot ticket }
-    ensures { (ticket : ℕ) → AwaitsIn rounds.old.items spot ticket → PutsAt rounds.old.items rounds.new.items spot ticket page result }
+    ensures { (ticket : ℕ) → AwaitsIn rounds.old.items spot ticket →
+        PutsAt rounds.old.items rounds.new.items spot ticket page result }
 {
     let round = &mut rounds[spot.round];
     round.take(spot.part, page);
@@ -78,7 +79,8 @@ fn put_at(rounds: &mut Vec<Gathering>, spot: Spot, page: Page) -> bool
 /// Takes the page that is awaited at a spot. Where its round is whole then, it comes out.
 pub(crate) fn take(rounds: &mut Vec<Gathering>, spot: Spot, page: Page) -> Option<Gathering>
     requires { (ticket : ℕ) × AwaitsIn rounds.old.items spot ticket }
-    ensures { (ticket : ℕ) → AwaitsIn rounds.old.items spot ticket → TakesIn rounds.old.items rounds.new.items ticket page result }
+    ensures { (ticket : ℕ) → AwaitsIn rounds.old.items spot ticket →
+        TakesIn rounds.old.items rounds.new.items ticket page result }
 {
     if put_at(rounds, spot, page) {
         Some(rounds.remove(spot.round))
