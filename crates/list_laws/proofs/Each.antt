@@ -1,5 +1,5 @@
 -- What holds of each element of a list, element by element: of its parts, of lists put together, and of its images.
-use Rattle.std.proofs.Common.{◌≡◌, Bool, true, false, cond, List, [], ◌∷◌, ◌++◌, map, refl}
+use Rattle.std.proofs.Common.{ℕ, zero, suc, ◌≡◌, ◌<◌, Bool, true, false, cond, if◌then◌else◌, List, [], ◌∷◌, ◌++◌, length, get_or, map, refl, sym, subst, arith}
 use Rattle.std.specs.List.{AllByRecursion, filter, flat_map, list_all}
 use Rattle.std.proofs.lemmas.Bool.{and_parts, and_from}
 
@@ -41,6 +41,17 @@ all_more P xs x h k = all_append P xs (x ∷ []) h (k, tt)
 pub all_last : {X : Type 0} (P : X → Type 0) (xs : List X) (x : X) → AllByRecursion P (xs ++ x ∷ []) → P x
 all_last P xs x h = (all_back P xs (x ∷ []) h).0
 
+-- one element or none
+pub all_if : {X : Type 0} (P : X → Type 0) (b : Bool) (x : X) → P x → AllByRecursion P (if b then x ∷ [] else [])
+all_if P true x h = (h, tt)
+all_if P false x h = tt
+
+-- the element at a place
+pub every_at : {X : Type 0} (P : X → Type 0) (xs : List X) (i : ℕ) (x : X) → AllByRecursion P xs → i < length xs → x ≡ get_or xs i x → P x
+every_at P [] i x h l e = absurd (omega arith)
+every_at P (y ∷ ys) zero x h l e = subst P (sym e) h.0
+every_at P (y ∷ ys) (suc i) x h l e = every_at P ys i x h.1 (omega arith) e
+
 -- ---- images
 
 pub all_map : {X Y : Type 0} (f : X → Y) (P : Y → Type 0) (xs : List X) → AllByRecursion (λ x. P (f x)) xs → AllByRecursion P (map f xs)
@@ -69,6 +80,13 @@ all_of_test p (x ∷ xs) h = let parts = and_parts (p x) (list_all p xs) h in (p
 pub test_of_all : {X : Type 0} (p : X → Bool) (xs : List X) → AllByRecursion (λ x. p x ≡ true) xs → list_all p xs ≡ true
 test_of_all p [] h = refl
 test_of_all p (x ∷ xs) h = and_from (p x) (list_all p xs) h.0 (test_of_all p xs h.1)
+
+-- of two lists together
+pub all_joined : {X : Type 0} (p : X → Bool) (a b : List X) → list_all p a ≡ true → list_all p b ≡ true → list_all p (a ++ b) ≡ true
+all_joined p [] b first second = second
+all_joined p (x ∷ a) b first second =
+    let parts = and_parts (p x) (list_all p a) first in
+    and_from (p x) (list_all p (a ++ b)) parts.0 (all_joined p a b parts.1 second)
 
 kept_too : {X : Type 0} (P : X → Type 0) (b : Bool) (x : X) (xs : List X) → P x → AllByRecursion P xs → AllByRecursion P (cond b (x ∷ xs) xs)
 kept_too P true x xs h k = (h, k)

@@ -1,8 +1,10 @@
 pub mod Ascending
 pub mod Begins
+pub mod Bytes
 pub mod Each
 pub mod Members
 pub mod Options
+pub mod Orders
 pub mod Lists
 pub mod Places
 pub mod Results

@@ -1,6 +1,8 @@
 -- What a value that is there tells of the steps that gave it.
-use Rattle.std.proofs.Common.{◌≡◌, ◌⊎◌, inl, inr, Bool, true, false, Option, Some, None, refl, sym, ◌∙◌}
+use Rattle.std.proofs.Common.{ℕ, ◌≡◌, ◌≤◌, ◌⊎◌, inl, inr, Bool, true, false, cond, ltb, Option, Some, None, refl, sym, ◌∙◌, arith}
+use Rattle.std.specs.Prelude.{unwrap_or}
 use Rattle.std.specs.Option.{option_map}
+use Rattle.std.proofs.lemmas.Grind.{common_steps}
 use Rattle.list_laws.specs.Options.{◌>>=◌, when, first_of}
 
 pub none_not_some : {A : Type 0} {x : A} → None ≡ Some x → ⊥
@@ -43,3 +45,7 @@ map_some f (Some x) y e = (x, refl, cc)
 pub some_or_none : {A : Type 0} (o : Option A) → ((x : A) × (o ≡ Some x)) ⊎ (o ≡ None)
 some_or_none None = inr refl
 some_or_none (Some x) = inl (x, refl)
+
+-- the place where there is one, and else the end
+pub place_or_length : (place n : ℕ) → place ≤ n → unwrap_or (cond (ltb place n) (Some place) None) n ≡ place
+place_or_length place n within = grind (arith, common_steps)
