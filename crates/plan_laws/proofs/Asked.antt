@@ -22,6 +22,7 @@ use Rattle.rdf_terms.specs.declared.slots.Slot.TheVariants.{Any, Fixed}
 use Rattle.rdf_terms.specs.declared.slots.Slots.{Slots}
 use Rattle.rdf_terms.specs.declared.limits.TheConstants.{MOST_ROWS}
 use Rattle.rdf_terms.specs.Selections.{Selection}
+use Rattle.template_fill.specs.declared.limits.TheConstants.{LONGEST_START}
 use Rattle.template_fill.specs.Metadata.{Config}
 use Rattle.template_fill.specs.ReadAddress.{query_of, when, ◌>>=◌}
 use Rattle.template_fill.specs.Rows.{accepted, three_of, places_between, slot_in_row, row_of, rows_of, few_rows_of, row_pair, rows_text}
@@ -366,13 +367,13 @@ rows_short true pairs rows e = few_short (values_under (codes "row") pairs) rows
 abbrev question_with : Slot → Slot → Slot → List Slots → ℕ → Question
 question_with s p o rows page = record { selection = record { slots = record { subject = s; predicate = p; object = o }; rows = rows }; page = page }
 
-selection_short : (pairs : List (List ℕ × List ℕ)) (s : Selection) → values_of pairs ≤ 262144 → IsShortSlot (under subject_name pairs) s.slots.subject → IsShortSlot (under predicate_name pairs) s.slots.predicate → IsShortSlot (under object_name pairs) s.slots.object
+selection_short : (pairs : List (List ℕ × List ℕ)) (s : Selection) → values_of pairs ≤ 4 * LONGEST_START → IsShortSlot (under subject_name pairs) s.slots.subject → IsShortSlot (under predicate_name pairs) s.slots.predicate → IsShortSlot (under object_name pairs) s.slots.object
     → length (rows_text 38 s.rows) ≤ 704 + 9 * under row_name pairs → IsShort s
 selection_short pairs s few hs hp ho hr = record {
   short = omega (arith, few, hr, all_under pairs, selection_long s, places_short s.slots (under subject_name pairs) (under predicate_name pairs) (under object_name pairs) hs hp ho);
 }
 
-asked_short : (reads : Bool) (pairs : List (List ℕ × List ℕ)) (question : Question) → values_of pairs ≤ 262144 → asked_by reads pairs ≡ Some question → IsShort question.selection
+asked_short : (reads : Bool) (pairs : List (List ℕ × List ℕ)) (question : Question) → values_of pairs ≤ 4 * LONGEST_START → asked_by reads pairs ≡ Some question → IsShort question.selection
 asked_short reads pairs question few is =
     let pages : Option ℕ = one_value (values_under (codes "page") pairs) >>= page_number in
     let s = bind-inv (slot_under (codes "subject") pairs) (λ s. slot_under (codes "predicate") pairs >>= (λ p. slot_under (codes "object") pairs >>= (λ o. rows_under reads pairs >>= (λ rows. pages >>= (λ page. Some (question_with s p o rows page)))))) question is in
@@ -385,10 +386,10 @@ asked_short reads pairs question few is =
     subst (λ (x : Question). IsShort x.selection) same
     (selection_short pairs q.selection few (place_short subject_name pairs s.0 s.1) (place_short predicate_name pairs p.0 p.1) (place_short object_name pairs o.0 o.1) (rows_short reads pairs r.0 r.1))
 
-question_short : (reads : Bool) (target : List ℕ) (question : Question) → length target ≤ 65536 → question_of reads target ≡ Some question → IsShort question.selection
+question_short : (reads : Bool) (target : List ℕ) (question : Question) → length target ≤ LONGEST_START → question_of reads target ≡ Some question → IsShort question.selection
 unfolding question_of
 question_short reads target question few is = asked_short reads (parameters target) question (omega (arith, few, parameters_sum target)) is
 
--- what a target of at most 65536 bytes asks for is no longer than a plan's selections are
-pub target_short : (config : Config) (s : Selection) (k : ℕ) (target : List ℕ) → length target ≤ 65536 → AsksFor config s k target → IsShort s
+-- what a target of at most LONGEST_START bytes asks for is no longer than a plan's selections are
+pub target_short : (config : Config) (s : Selection) (k : ℕ) (target : List ℕ) → length target ≤ LONGEST_START → AsksFor config s k target → IsShort s
 target_short config s k target few asks = question_short config.rows target (record { selection = s; page = k }) few asks.question

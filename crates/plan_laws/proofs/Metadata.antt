@@ -1,8 +1,10 @@
 -- The terms of what is said of a page are short where its addresses are.
 use Rattle.std.proofs.Common.{ℕ, ◌≡◌, ◌+◌, ◌*◌, ◌<◌, ◌≤◌, ◌^◌, Bool, true, false, List, [], ◌∷◌, ◌++◌, map, length, codes, if◌then◌else◌, refl, arith, lit≤, length-append}
 use Rattle.std.specs.List.{AllByRecursion}
+use Rattle.list_laws.proofs.Each.{all_append}
 use Rattle.tpf_base.specs.Decimals.{decimal_text}
 use Rattle.tpf_base.proofs.DecimalTexts.{decimal_text-short}
+use Rattle.rdf_terms.specs.declared.limits.TheConstants.{LONGEST_READ}
 use Rattle.rdf_terms.specs.declared.term.Term.{Term}
 use Rattle.rdf_terms.specs.declared.term.Term.TheVariants.{Iri, Blank}
 use Rattle.rdf_terms.specs.declared.term.Kind.TheVariants.{Plain, Typed}
@@ -19,7 +21,7 @@ use Rattle.control_laws.proofs.LawMetadata.{Parts, metadata}
 -- ---- terms
 
 pub record Fits (term : Term) : Type 0 where
-  pub short : length (canonical_term term) ≤ 4194304
+  pub short : length (canonical_term term) ≤ LONGEST_READ
 
 iri_fits : (text : List ℕ) → length text ≤ 4000000 → Fits (Iri text)
 iri_fits text h = record { short = omega (arith, h, length-append text (62 ∷ [])) }
@@ -70,14 +72,10 @@ integer_fits n fits = record {
 -- ---- quads
 
 pub record AreFitting (quads : List Quad) : Type 0 where
-  pub each : AllByRecursion (HasShortTerms 4194304) quads
-
-all_append : (xs ys : List Quad) → AllByRecursion (HasShortTerms 4194304) xs → AllByRecursion (HasShortTerms 4194304) ys → AllByRecursion (HasShortTerms 4194304) (xs ++ ys)
-all_append [] ys h k = k
-all_append (x ∷ xs) ys h k = (h.0, all_append xs ys h.1 k)
+  pub each : AllByRecursion (HasShortTerms LONGEST_READ) quads
 
 pub joined : {xs ys : List Quad} → AreFitting xs → AreFitting ys → AreFitting (xs ++ ys)
-joined {xs} {ys} h k = record { each = all_append xs ys h.each k.each }
+joined {xs} {ys} h k = record { each = all_append (HasShortTerms LONGEST_READ) xs ys h.each k.each }
 
 none : AreFitting []
 none = record { each = tt }
@@ -188,7 +186,7 @@ metadata_fits there back m h =
 
 -- ---- the data
 
-triple_fits : (t : Triple) → Fits t.subject → Fits t.predicate → Fits t.object → HasShortTerms 4194304 (in_default_graph t)
+triple_fits : (t : Triple) → Fits t.subject → Fits t.predicate → Fits t.object → HasShortTerms LONGEST_READ (in_default_graph t)
 triple_fits t s p o = record { subject = s.short; predicate = p.short; object = o.short; graph = tt }
 
 -- a triple of short terms

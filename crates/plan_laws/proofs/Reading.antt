@@ -15,12 +15,13 @@ use Rattle.rdf_terms.specs.declared.slots.Slot.TheVariants as slots
 use Rattle.rdf_terms.specs.declared.slots.Slots.{Slots}
 use Rattle.rdf_terms.specs.Askable.{AskableAreKept}
 use Rattle.rdf_terms.specs.Canon.{canonical_term}
-use Rattle.rdf_terms.specs.declared.limits.TheConstants.{MOST_ROWS}
+use Rattle.rdf_terms.specs.declared.limits.TheConstants.{LONGEST_TERM, MOST_ROWS}
 use Rattle.rdf_terms.specs.Fragments.{put_by, put, sorted, fragment, last_page_of}
 use Rattle.rdf_terms.specs.Selections.{Selection, IsKeptSelection, all_of, matches_one, restricted, selected, selected_last, selected_page}
 use Rattle.rdf_terms.specs.Slots.{matches, order_of}
 use Rattle.rdf_terms.specs.Valid.{IsValidTriple}
 use Rattle.triple_table.specs.Served.{terms_in, terms_of}
+use Rattle.template_fill.specs.declared.limits.TheConstants.{LONGEST_START}
 use Rattle.template_fill.specs.ReadAddress.{path_of, query_of, with_target}
 use Rattle.template_fill.specs.Explicit.{FormsAreShort}
 use Rattle.template_fill.specs.Pages.{places_text, selection_text, page_address}
@@ -162,7 +163,7 @@ terms_each triples P each t there =
     }
 
 abbrev IsBrief : Term → Type 0
-IsBrief term = length (canonical_term term) ≤ 262144
+IsBrief term = length (canonical_term term) ≤ LONGEST_TERM
 
 good_triple : FormsAreShort → (t : Triple) → IsValidTriple t → HasTerms IsBrief t → HasTerms IsGood t
 good_triple short t valid h = record {
@@ -197,7 +198,7 @@ template_long : length (codes "{?subject,predicate,object}") ≡ 27
 template_long = refl
 
 -- the texts of a page of a selection that is not long fit
-texts_fit : (config : Config) (u : Selection) (k count version : ℕ) → length (address_text config.base) ≤ 65536 → IsShort u → k + 1 < 2 ^ 64 → count < 2 ^ 64 → version < 2 ^ 64 → HasFittingTexts (parts_for config u k count version)
+texts_fit : (config : Config) (u : Selection) (k count version : ℕ) → length (address_text config.base) ≤ LONGEST_START → IsShort u → k + 1 < 2 ^ 64 → count < 2 ^ 64 → version < 2 ^ 64 → HasFittingTexts (parts_for config u k count version)
 unfolding parts_for
 texts_fit config u k count version base h fits few number = record {
   graph = omega (arith, base, address_short config.base u k h (omega (arith, fits)), length-append (page_address config.base u k) (codes "#metadata"), data_set_long);
@@ -303,7 +304,7 @@ module _ (forms : FormsAreShort) (given : PagesAreGiven) (answered : AnsweredGiv
   pub plan_read : (block : ℕ) → 1 ≤ block → block ≤ MOST_ROWS → (patterns : List Pattern) (names : ℕ) → AllByRecursion IsAskable patterns → AllByRecursion (IsRead history mark config) (plan (server_world block triples config) patterns (replicate names None))
   plan_read block low high patterns names h = all_read (plan (server_world block triples config) patterns (replicate names None)) (plan_planned block low high patterns names h)
 
-  pub start_read : (start : Address) → authority_of start ≡ authority_of config.base → length (target_of start) ≤ 65536 → is_answered history mark config start ≡ true → IsRead history mark config start
+  pub start_read : (start : Address) → authority_of start ≡ authority_of config.base → length (target_of start) ≤ LONGEST_START → is_answered history mark config start ≡ true → IsRead history mark config start
   start_read start same few is =
       let g = (answered history mark config start).0 is in
       read_of start g.selection g.k g.gives (target_short config g.selection g.k (target_of start) few g.gives.asks) same

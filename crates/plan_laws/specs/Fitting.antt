@@ -1,15 +1,16 @@
 -- Plans whose addresses are answered with pages that are read (Triple Pattern Fragments; Verborgh et al.).
-use Rattle.std.specs.Prelude.{ℕ, ◌≡◌, ◌≤◌, true, List, length, replicate, None, ⊤}
+use Rattle.std.specs.Prelude.{ℕ, ◌≡◌, ◌+◌, ◌≤◌, true, List, length, replicate, None, ⊤}
 use Rattle.std.specs.List.{AllByRecursion, Contains}
 use Rattle.tpf_base.specs.Addresses.{Address, address_text, authority_of, target_of}
 use Rattle.tpf_base.specs.HttpHeads.{head_limit}
 use Rattle.tpf_base.specs.Marks.{Mark, version_at}
 use Rattle.rdf_terms.specs.declared.term.Term.{Term}
 use Rattle.rdf_terms.specs.declared.term.Triple.{Triple}
-use Rattle.rdf_terms.specs.declared.limits.TheConstants.{MOST_ROWS}
+use Rattle.rdf_terms.specs.declared.limits.TheConstants.{LONGEST_TERM, MOST_ROWS}
 use Rattle.rdf_terms.specs.Canon.{canonical_term}
 use Rattle.rdf_terms.specs.Sizes.{term_size}
 use Rattle.triple_table.specs.Served.{terms_of}
+use Rattle.template_fill.specs.declared.limits.TheConstants.{LONGEST_START}
 use Rattle.template_fill.specs.Metadata.{Config}
 use Rattle.template_fill.specs.Configurations.{IsConfig, IsHistory}
 use Rattle.template_fill.specs.Bodies.{version_of}
@@ -34,14 +35,14 @@ pub record IsRead (history : List (List Triple)) (mark : Mark) (config : Config)
 
 -- ---- limits
 
--- each term has a canonical text of at most 262144 bytes, and the number of the triples has at most 19 digits
+-- each term has a canonical text of at most LONGEST_TERM bytes, and the number of the triples has at most 19 digits
 pub record AreServable (triples : List Triple) : Type 0 where
-  pub terms : (term : Term) → Contains (terms_of triples) term → length (canonical_term term) ≤ 262144
+  pub terms : (term : Term) → Contains (terms_of triples) term → length (canonical_term term) ≤ LONGEST_TERM
   pub few : length triples ≤ 9999999999999999999
 
--- a fixed part has texts of at most 262204 bytes, as in each query that is read
+-- a fixed part has texts of at most 60 bytes more than LONGEST_TERM, as in each query that is read
 abbrev pub IsAskablePart : Part → Type 0
-IsAskablePart (Fixed term) = term_size term ≤ 262204
+IsAskablePart (Fixed term) = term_size term ≤ LONGEST_TERM + 60
 IsAskablePart (Name n) = ⊤
 
 -- a pattern of valid terms that are so short
@@ -51,13 +52,13 @@ pub record IsAskable (p : Pattern) : Type 0 where
   pub predicate : IsAskablePart p.predicate
   pub object : IsAskablePart p.object
 
--- A server of one version of a history, within these limits; the text of its base has at most 65536 bytes.
+-- A server of one version of a history, within these limits; the text of its base has at most LONGEST_START bytes.
 pub record IsServable (history : List (List Triple)) (mark : Mark) (config : Config) : Type 0 where
   pub is_history : IsHistory history
   pub is_config : IsConfig config
   pub version : IsVersion (length history) mark
   pub triples : AreServable (version_of history (version_at mark))
-  pub base : length (address_text config.base) ≤ 65536
+  pub base : length (address_text config.base) ≤ LONGEST_START
 
 -- ---- the laws
 
@@ -81,6 +82,6 @@ StartsAreRead =
     (history : List (List Triple)) (mark : Mark) (config : Config) (start : Address)
     → IsServable history mark config
     → authority_of start ≡ authority_of config.base
-    → length (target_of start) ≤ 65536
+    → length (target_of start) ≤ LONGEST_START
     → is_answered history mark config start ≡ true
     → IsRead history mark config start
