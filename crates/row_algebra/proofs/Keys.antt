@@ -1,5 +1,5 @@
 -- Keys of rows: equal keys, and rows that are compatible.
-use Rattle.std.proofs.Common.{Bor, ℕ, zero, suc, ◌≡◌, ◌<◌, ◌⊎◌, inl, inr, Bool, true, false, ◌&&◌, if◌then◌else◌, List, [], ◌∷◌, ◌++◌, length, map, get_or, Option, Some, None, refl, ap, sym, subst, ◌∙◌, arith, append-nil}
+use Rattle.std.proofs.Common.{Bor, ℕ, zero, suc, ◌≡◌, ◌⊎◌, inl, inr, Bool, true, false, ◌&&◌, if◌then◌else◌, List, [], ◌∷◌, ◌++◌, length, map, Option, Some, None, refl, ap, sym, subst, ◌∙◌, arith, append-nil}
 use Rattle.std.specs.Prelude.{is_some, option_copied}
 use Rattle.std.specs.Option.{option_cmp}
 use Rattle.std.specs.Ordering.{is_eq, ordering_then}
@@ -12,7 +12,7 @@ use Rattle.list_laws.proofs.Each.{all_so, all_more}
 use Rattle.list_laws.proofs.Members.{head_or_tail, none_in}
 use Rattle.list_laws.proofs.Options.{none_not_some}
 use Rattle.list_laws.proofs.Lists.{cons_same}
-use Rattle.list_laws.proofs.Tests.{and_first, and_second}
+use Rattle.list_laws.proofs.Tests.{and_first, and_second, same_truth}
 use Rattle.rdf_terms.specs.Same.{term_eq}
 use Rattle.rdf_terms.specs.Order.{term_order}
 use Rattle.rdf_terms.specs.OrderLaws.{term_ties}
@@ -22,13 +22,6 @@ use Rattle.bgp_core.specs.Solutions.{Places, term_at}
 use Rattle.bgp_core.specs.Merging.{compatible, MergingIsUnion, Binds}
 use Rattle.row_algebra.specs.Algebra.{merge, place_eq, row_eq, BindsOnly}
 use Rattle.row_algebra.specs.Finding.{key_of, BindsAll, all_bind, shared_name}
-
--- ---- each element of a list
-
-pub all_at : {X : Type 0} (P : X → Type 0) (xs : List X) (i : ℕ) (x : X) → AllByRecursion P xs → i < length xs → x ≡ get_or xs i x → P x
-all_at P [] i x a h e = absurd (omega (arith, h))
-all_at P (y ∷ ys) zero x a h e = subst P (sym e) a.0
-all_at P (y ∷ ys) (suc i) x a h e = all_at P ys i x a.1 (omega (arith, h)) e
 
 -- ---- equality of rows
 
@@ -51,11 +44,6 @@ row_same (o ∷ r) (p ∷ s) h = cons_same o p r s (place_same o p (and_parts (p
 pub row_self : (r : Places) → row_eq r r ≡ true
 row_self [] = refl
 row_self (o ∷ r) = and_from (place_eq o o) (row_eq r r) (place_self o) (row_self r)
-
-pub same_truth : (a b : Bool) → (a ≡ true → b ≡ true) → (b ≡ true → a ≡ true) → a ≡ b
-same_truth true b f g = sym (f refl)
-same_truth false true f g = g refl
-same_truth false false f g = refl
 
 -- ---- the order of keys
 

@@ -4,6 +4,7 @@ use Rattle.std.specs.List.{AllByRecursion, flat_map}
 use Rattle.std.specs.Slice.{IsItemAt}
 use Rattle.std.proofs.lemmas.List.{flat_map_more, take_more}
 use Rattle.list_laws.proofs.Each.{all_so}
+use Rattle.list_laws.proofs.Lists.{at_place}
 use Rattle.list_laws.proofs.Options.{none_not_some, some_same}
 use Rattle.bgp_core.specs.Solutions.{Places}
 use Rattle.bgp_core.specs.Merging.{MergingIsUnion}
@@ -11,12 +12,7 @@ use Rattle.row_algebra.specs.Algebra.{merge, merges, row_eq}
 use Rattle.row_algebra.specs.Finding.{key_of, BindsAll, places_where, has_key, merge_with, merges_at, given, combined}
 use Rattle.row_algebra.proofs.Keys.{apart}
 
--- what stands at a place
-pub at_place : {X : Type 0} (xs : List X) (i : ℕ) (x : X) → i < length xs → x ≡ get_or xs i x → slice_get xs i ≡ Some x
-at_place [] i x h e = absurd (omega (arith, h))
-at_place {X} (y ∷ ys) zero x h e = ap (λ (z : X). let o : Option X = Some z in o) (sym e)
-at_place (y ∷ ys) (suc i) x h e = at_place ys i x (omega (arith, h)) e
-
+-- what stands at no place
 pub past_places : {X : Type 0} (xs : List X) (i : ℕ) → length xs ≤ i → slice_get xs i ≡ None
 past_places [] i h = refl
 past_places (y ∷ ys) zero h = absurd (omega (arith, h))

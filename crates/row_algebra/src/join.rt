@@ -6,7 +6,7 @@ ghost use Rattle.row_algebra.specs.Finding.{BindsAll, IsIndexOf, merges_at, give
 
 use crate::index::{Bucket, index_of, places_of};
 use crate::key::{Key, key_of, shared_names};
-use bgp_core::{Row, merging_is_union};
+use bgp_core::{Row, laws};
 use std::alloc::Global;
 use std::collections::BTreeMap;
 use text_base::OutOfMemory;
@@ -77,7 +77,7 @@ fn with_index<'a>(
     requires width { AreAsWide left.now right.now }
     ensures { IfOk result (λ v. v.items ≡ combined keeps left.entry.now right.now) }
 {
-    merging_is_union();
+    laws::merging_is_union();
     let mut rows = Vec::new(alloc);
     for row in left {
         let key = key_of(alloc, names, row)?;

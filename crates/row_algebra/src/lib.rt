@@ -12,8 +12,7 @@ mod distinct;
 mod index;
 mod join;
 mod key;
-mod laws;
+pub mod laws;
 
 pub use distinct::distinct_rows;
 pub use join::{join_rows, optional_rows};
-pub use laws::order_is_free;
