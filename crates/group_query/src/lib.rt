@@ -4,8 +4,9 @@
 //! postfix order, so that it is dropped and evaluated by loops, however deep it is; contracts see the tree.
 #![tactic(auto)]
 
+pub mod laws;
 mod query;
 mod step;
 
 pub use query::GroupQuery;
-pub use step::{Patterns, Step, steps_are_trees};
+pub use step::{Patterns, Step};

@@ -43,7 +43,8 @@ impl GroupQuery {
         requires postfix { IsPostfix steps.items }
         requires fit { TreeFits (length names.items) (tree_of steps.items) }
         requires selected { AllByRecursion (λ n. n < length names.items) selected.items }
-        ensures { result ≡ record { steps = steps.items; names = names.items; selected = selected.items; distinct = distinct } }
+        ensures { result ≡
+            record { steps = steps.items; names = names.items; selected = selected.items; distinct = distinct } }
     {
         GroupQuery {
             steps,

@@ -1,6 +1,5 @@
 // The steps of a group.
 ghost use Rattle.std.specs.Prelude.{◌≡◌};
-ghost use Rattle.group_query.specs.Laws.{StepsAreTrees};
 
 use bgp_core::Pattern;
 use std::marker::Model;
@@ -51,8 +50,3 @@ pub enum Step {
     /// Union of two groups.
     Union,
 }
-
-/// Steps are those of one tree alone: the steps of a tree give that tree.
-pub fn steps_are_trees()
-    ensures { StepsAreTrees }
-{}
