@@ -18,6 +18,7 @@ use Rattle.group_faults.specs.declared.fault.GroupFault.{GroupFault}
 use Rattle.group_faults.specs.declared.fault.GroupFault.TheVariants as faults
 use Rattle.group_faults.specs.declared.fault.GroupWhy.{GroupWhy}
 use Rattle.group_faults.specs.declared.fault.GroupWhy.TheVariants.{Basic, TooDeep, SharedBlank}
+use Rattle.group_faults.specs.declared.limits.TheConstants.{MOST_OPEN}
 use Rattle.group_faults.specs.Signs.{sign_of, is_other, runs_of}
 
 -- a fault of a query as that of a query with groups
@@ -38,9 +39,9 @@ place_at n ts = option_map (λ p. p.at) (slice_get ts n)
 
 -- ---- too deep
 
--- how many groups are open behind a token, unless it opens one inside 32
+-- how many groups are open behind a token, unless it opens one inside MOST_OPEN others
 abbrev pub depth_after : ℕ → Value → Option ℕ
-depth_after depth values.OpenBrace = if nat_lt depth 32 then Some (depth + 1) else None
+depth_after depth values.OpenBrace = if nat_lt depth MOST_OPEN then Some (depth + 1) else None
 depth_after depth values.CloseBrace = Some (depth - 1)
 depth_after depth _ = Some depth
 
@@ -49,7 +50,7 @@ abbrev pub place_unless : ℕ → Option ℕ → (ℕ → Option ℕ) → Option
 place_unless at None rest = Some at
 place_unless at (Some n) rest = rest n
 
--- the place of the first '{' inside 32 groups, where so many are open before these tokens
+-- the place of the first '{' inside MOST_OPEN groups, where so many are open before these tokens
 abbrev pub deep_from : ℕ → List Word → Option ℕ
 deep_from depth [] = None
 deep_from depth (w ∷ ws) = place_unless w.at (depth_after depth w.value) (λ n. deep_from n ws)
@@ -98,6 +99,10 @@ basic_or (Some f) later = Some (Basic f.0, f.1)
 -- the first fault of the tokens from the first brace on, behind the names of the SELECT part
 abbrev pub block_fault : (List ℕ → Option (List ℕ)) → List (List ℕ) → List Word → Option (GroupWhy × ℕ)
 block_fault iri names b = fault_at (excess (triples_in iri names (runs_of b))) (Basic why.TooManyPatterns) (fault_at (deep_from 0 b) TooDeep (fault_at (shared_from (λ t. None) 0 b) SharedBlank None))
+
+-- this is the first fault of the tokens from the first brace on, or there is none, whatever their prefixes stand for and whatever names stand before them
+abbrev pub HasBlockFault : List Word → Option (GroupWhy × ℕ) → Type 0
+HasBlockFault b fault = (iri : List ℕ → Option (List ℕ)) (names : List (List ℕ)) → block_fault iri names b ≡ fault
 
 -- the first fault of tokens with these prefixes, of which those from SELECT on are given too
 abbrev pub group_fault_with : (List ℕ → Option (List ℕ)) → List Word → List Word → Option (GroupWhy × ℕ)

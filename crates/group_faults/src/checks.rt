@@ -1,9 +1,10 @@
 // The first fault of tokens that the grammar of groups reads.
-ghost use Rattle.std.specs.Prelude.{◌≡◌, ◌≤◌, ℕ, List, Option, length, OnOk, IsErrOf, Some, None};
+ghost use Rattle.std.specs.Prelude.{◌≡◌, ◌≤◌, ℕ, length, OnOk, IsErrOf, Some, None};
 ghost use Rattle.std.specs.BTreeMap.{get_by_text};
+ghost use Rattle.query_tokens.specs.declared.piece.TheConstants.{LONGEST_QUERY};
 ghost use Rattle.pattern_parser.specs.Queries.{term_fault};
 ghost use Rattle.group_faults.specs.declared.fault.GroupWhy.{GroupWhy};
-ghost use Rattle.group_faults.specs.Faults.{basic_or, block_fault, group_fault_with};
+ghost use Rattle.group_faults.specs.Faults.{basic_or, HasBlockFault, group_fault_with};
 
 use crate::fault::{GroupFault, GroupWhy};
 use crate::limits::{excess_in_groups, first_deep};
@@ -21,7 +22,8 @@ fn bad(at: usize, why: GroupWhy) -> GroupFault
 /// Finds the first fault of names and terms, in the tokens from SELECT on and in all.
 fn check_names(prefixes: &Prefixes, words: &[Word], body: &[Word]) -> Result<(), GroupFault>
     ensures ok { OnOk result (term_fault (λ q. get_by_text prefixes.now q) words.now body.now ≡ None) }
-    ensures bad { (w : GroupWhy) (at : ℕ) → IsErrOf result (GroupFault.Bad at w) → basic_or (term_fault (λ q. get_by_text prefixes.now q) words.now body.now) None ≡ Some (w, at) }
+    ensures bad { (w : GroupWhy) (at : ℕ) → IsErrOf result (GroupFault.Bad at w)
+        → basic_or (term_fault (λ q. get_by_text prefixes.now q) words.now body.now) None ≡ Some (w, at) }
 {
     match check_terms(prefixes, words, body) {
         Ok(()) => Ok(()),
@@ -32,9 +34,10 @@ fn check_names(prefixes: &Prefixes, words: &[Word], body: &[Word]) -> Result<(),
 
 /// Finds the first fault of the groups, in the tokens from the first brace on.
 fn check_block(alloc: Global, block: &[Word]) -> Result<(), GroupFault>
-    requires { length block.now ≤ 262144 }
-    ensures ok { OnOk result ((iri : List ℕ → Option (List ℕ)) (names : List (List ℕ)) → block_fault iri names block.now ≡ None) }
-    ensures bad { (w : GroupWhy) (at : ℕ) → IsErrOf result (GroupFault.Bad at w) → (iri : List ℕ → Option (List ℕ)) (names : List (List ℕ)) → block_fault iri names block.now ≡ Some (w, at) }
+    requires { length block.now ≤ LONGEST_QUERY }
+    ensures ok { OnOk result (HasBlockFault block.now None) }
+    ensures bad { (w : GroupWhy) (at : ℕ) → IsErrOf result (GroupFault.Bad at w)
+        → HasBlockFault block.now (Some (w, at)) }
 {
     if let Some(at) = excess_in_groups(block) {
         return Err(bad(at, GroupWhy::Basic(QueryWhy::TooManyPatterns)));
@@ -57,9 +60,10 @@ pub fn check_groups(
     words: &[Word],
     body: &[Word],
 ) -> Result<(), GroupFault>
-    requires { length body.now ≤ 262144 }
+    requires { length body.now ≤ LONGEST_QUERY }
     ensures ok { OnOk result (group_fault_with (λ q. get_by_text prefixes.now q) words.now body.now ≡ None) }
-    ensures bad { (w : GroupWhy) (at : ℕ) → IsErrOf result (GroupFault.Bad at w) → group_fault_with (λ q. get_by_text prefixes.now q) words.now body.now ≡ Some (w, at) }
+    ensures bad { (w : GroupWhy) (at : ℕ) → IsErrOf result (GroupFault.Bad at w)
+        → group_fault_with (λ q. get_by_text prefixes.now q) words.now body.now ≡ Some (w, at) }
 {
     check_names(prefixes, words, body)?;
     let (_, block) = body.split_at(before_brace(body));

@@ -12,8 +12,8 @@ pub enum GroupWhy {
     /// A fault that a query without groups may have as well, in the grammar of queries with groups, and
     /// with all patterns of the text counted.
     Basic(QueryWhy),
-    /// Groups nest deeper than 32, the outermost having depth 1: the first `{` that opens a group at
-    /// depth 33.
+    /// Groups nest deeper than `MOST_OPEN` (32), the outermost having depth 1: the first `{` that opens
+    /// a group inside so many.
     TooDeep,
     /// The label of a blank node stands in two blocks (SPARQL 1.1, section 5.1.1): the first place of a
     /// label that stands in an earlier block.

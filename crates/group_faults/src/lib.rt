@@ -13,5 +13,6 @@ mod tokens;
 
 pub use checks::check_groups;
 pub use fault::{GroupFault, GroupWhy, as_group_fault};
+pub use limits::MOST_OPEN;
 pub use sign::{Sign, is_other, sign_of};
 pub use tokens::group_words;

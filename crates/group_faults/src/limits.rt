@@ -1,17 +1,16 @@
 // Too many patterns, and groups too deep. Both are found from the tokens alone, before a term is made.
-ghost use Rattle.std.specs.Prelude.{◌≡◌, ◌≤◌, ◌<◌, ◌+◌, ◌∷◌, [], ℕ, List, Option, Some, length, IfSome, IfNone};
+ghost use Rattle.std.specs.Prelude.{◌≡◌, ◌≤◌, ◌<◌, ◌+◌, ℕ, List, Option, length, IfSome, IfNone};
 ghost use Rattle.pattern_parser.specs.Queries.{excess};
 ghost use Rattle.group_faults.specs.Signs.{runs_of};
-ghost use Rattle.pattern_parser.specs.Items.{names_after};
-ghost use Rattle.group_faults.specs.Faults.{triples_in, place_at, depth_after, deep_from};
-ghost use Rattle.group_faults.specs.Walks.{runs_from};
+ghost use Rattle.group_faults.specs.Faults.{triples_in, depth_after, deep_from};
+ghost use Rattle.group_faults.specs.Walks.{runs_from, IsOverIn, GoesBehind, IsOver, GoesOn};
 
 use crate::sign::{is_other, sign_of};
 use pattern_parser::{PatternCount, count_patterns};
 use query_words::word::{Value, Word};
 
-/// The most groups that may be open at a `{`.
-const MOST_OPEN: usize = 32;
+/// The most groups that are open at once, one inside another.
+pub const MOST_OPEN: usize = 32;
 
 /// A walk over the runs of tokens between signs.
 #[derive(Debug, Drop)]
@@ -26,8 +25,8 @@ impl Walk {
     /// Counts the patterns of the run before a token, and gives the place of the object that completes one
     /// too many.
     fn count(&mut self, run: &[Word]) -> Option<usize>
-        ensures over { IfSome result (λ at. (iri : List ℕ → Option (List ℕ)) (names : List (List ℕ)) (runs : List (List Word)) → place_at self.old.left (triples_in iri names (run.now ∷ runs)) ≡ Some at) }
-        ensures within { IfNone result ((iri : List ℕ → Option (List ℕ)) (names : List (List ℕ)) (runs : List (List Word)) → place_at self.old.left (triples_in iri names (run.now ∷ runs)) ≡ place_at self.new.left (triples_in iri (names_after names 0 run.now) runs)) }
+        ensures over { IfSome result (λ at. IsOverIn run.now self.old.left at) }
+        ensures within { IfNone result (GoesBehind run.now self.old.left self.new.left) }
         ensures from { self.new.from ≡ self.old.from }
     {
         match count_patterns(self.left, run) {
@@ -43,8 +42,9 @@ impl Walk {
     fn take(&mut self, words: &[Word], i: usize) -> Option<usize>
         requires from { self.old.from ≤ i }
         requires within { i < length words.now }
-        ensures over { IfSome result (λ at. (iri : List ℕ → Option (List ℕ)) (names : List (List ℕ)) → place_at self.old.left (triples_in iri names (runs_from self.old.from i words.now)) ≡ Some at) }
-        ensures within { IfNone result ((iri : List ℕ → Option (List ℕ)) (names : List (List ℕ)) → (later : List (List ℕ)) × (place_at self.new.left (triples_in iri later (runs_from self.new.from (i + 1) words.now)) ≡ place_at self.old.left (triples_in iri names (runs_from self.old.from i words.now)))) }
+        ensures over { IfSome result (λ at. IsOver (runs_from self.old.from i words.now) self.old.left at) }
+        ensures within { IfNone result (GoesOn (runs_from self.old.from i words.now) self.old.left
+            (runs_from self.new.from (i + 1) words.now) self.new.left) }
         ensures from { IfNone result (self.new.from ≤ i + 1) }
     {
         if is_other(sign_of(&words[i].value)) {
@@ -59,7 +59,8 @@ impl Walk {
 /// The place of the object that completes the 65th pattern of all blocks, if there is one, whatever the
 /// prefixes stand for.
 pub fn excess_in_groups(words: &[Word]) -> Option<usize>
-    ensures { (iri : List ℕ → Option (List ℕ)) (names : List (List ℕ)) → result ≡ excess (triples_in iri names (runs_of words.now)) }
+    ensures { (iri : List ℕ → Option (List ℕ)) (names : List (List ℕ))
+        → result ≡ excess (triples_in iri names (runs_of words.now)) }
 {
     let mut walk = Walk { from: 0, left: 64 };
     for i in 0..words.len() {
@@ -73,9 +74,9 @@ pub fn excess_in_groups(words: &[Word]) -> Option<usize>
 
 /// How many groups are open behind a token, unless it opens one too many.
 fn depth_after(depth: usize, value: &Value) -> Option<usize>
-    requires { depth ≤ 32 }
+    requires { depth ≤ MOST_OPEN }
     ensures value { result ≡ depth_after depth value.now }
-    ensures within { IfSome result (λ n. n ≤ 32) }
+    ensures within { IfSome result (λ n. n ≤ MOST_OPEN) }
 {
     match value {
         Value::OpenBrace => {
@@ -90,7 +91,7 @@ fn depth_after(depth: usize, value: &Value) -> Option<usize>
     }
 }
 
-/// The place of the first `{` that opens a group at depth 33.
+/// The place of the first `{` that opens a group inside `MOST_OPEN` others.
 pub fn first_deep(words: &[Word]) -> Option<usize>
     ensures { result ≡ deep_from 0 words.now }
 {

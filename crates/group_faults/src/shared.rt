@@ -1,9 +1,9 @@
 // A label of a blank node that stands in two blocks.
-ghost use Rattle.std.specs.Prelude.{◌≡◌, ◌<◌, ◌≤◌, ◌+◌, ◌∷◌, ℕ, List, Option, Some, None, length, IfOk, IsTrue, IsFalse, OnOk, if◌then◌else◌, option_copied};
+ghost use Rattle.std.specs.Prelude.{◌≡◌, ◌<◌, ◌≤◌, ◌+◌, ℕ, List, None, length, IfOk, IsTrue, IsFalse, OnOk, option_copied};
 ghost use Rattle.std.specs.BTreeMap.{get_by_text};
-ghost use Rattle.std.specs.Str.{bytes_eq};
-ghost use Rattle.group_faults.specs.Faults.{label_text, block_after, shared_from};
-ghost use Rattle.group_faults.specs.Walks.{Takes};
+ghost use Rattle.query_tokens.specs.declared.piece.TheConstants.{LONGEST_QUERY};
+ghost use Rattle.group_faults.specs.Faults.{label_text, block_after, with_label, shared_from};
+ghost use Rattle.group_faults.specs.Walks.{Takes, IsShared, Passes};
 
 use crate::sign::{is_other, sign_of};
 use query_words::word::{Value, Word};
@@ -20,7 +20,7 @@ struct Walk {
 }
 
 fn block_after(block: usize, value: &Value) -> usize
-    requires { block < 262144 }
+    requires { block < LONGEST_QUERY }
     ensures value { result ≡ block_after block value.now }
     ensures within { result ≤ block + 1 }
 {
@@ -48,7 +48,8 @@ fn add(
     label: &str,
     block: usize,
 ) -> Result<(), OutOfMemory>
-    ensures { OnOk result ((q : List ℕ) → get_by_text first.new q ≡ (if bytes_eq q label.now then Some block else get_by_text first.old q)) }
+    ensures { OnOk result ((q : List ℕ) →
+        get_by_text first.new q ≡ with_label (λ t. get_by_text first.old t) label.now block q) }
 {
     let _ = first.insert(String::from_str(alloc, label)?, block)?;
     Ok(())
@@ -64,7 +65,8 @@ impl Walk {
 
     /// Takes a label, and says whether it stands in another block before.
     fn take_label(&mut self, alloc: Global, label: &str) -> Result<bool, OutOfMemory>
-        ensures takes { IfOk result (λ b. Takes (λ q. get_by_text self.old.first q) self.old.block label.now b (λ q. get_by_text self.new.first q)) }
+        ensures takes { IfOk result (λ b.
+            Takes (λ q. get_by_text self.old.first q) self.old.block label.now b (λ q. get_by_text self.new.first q)) }
         ensures block { self.new.block ≡ self.old.block }
     {
         match self.first_of(label) {
@@ -78,9 +80,11 @@ impl Walk {
 
     /// Takes a token, and says whether it is a label that stands in another block before.
     fn take(&mut self, alloc: Global, word: &Word) -> Result<bool, OutOfMemory>
-        requires { self.old.block < 262144 }
-        ensures shared { IfOk result (λ b. IsTrue b → (rest : List Word) → shared_from (λ q. get_by_text self.old.first q) self.old.block (word.now ∷ rest) ≡ Some word.now.at) }
-        ensures other { IfOk result (λ b. IsFalse b → (rest : List Word) → shared_from (λ q. get_by_text self.new.first q) self.new.block rest ≡ shared_from (λ q. get_by_text self.old.first q) self.old.block (word.now ∷ rest)) }
+        requires { self.old.block < LONGEST_QUERY }
+        ensures shared { IfOk result (λ b. IsTrue b →
+            IsShared (λ q. get_by_text self.old.first q) self.old.block word.now) }
+        ensures other { IfOk result (λ b. IsFalse b → Passes (λ q. get_by_text self.old.first q) self.old.block word.now
+            (λ q. get_by_text self.new.first q) self.new.block) }
         ensures within { OnOk result (self.new.block ≤ self.old.block + 1) }
     {
         match label_text(&word.value) {
@@ -95,7 +99,7 @@ impl Walk {
 
 /// The first place of a label of a blank node that stands in an earlier block.
 pub fn first_shared(alloc: Global, words: &[Word]) -> Result<Option<usize>, OutOfMemory>
-    requires { length words.now ≤ 262144 }
+    requires { length words.now ≤ LONGEST_QUERY }
     ensures { IfOk result (λ o. o ≡ shared_from (λ _. None) 0 words.now) }
 {
     let mut walk = Walk {

@@ -1,5 +1,6 @@
 // The tokens of a text that the grammar of groups reads.
 ghost use Rattle.std.specs.Prelude.{◌≡◌, ◌≤◌, ℕ, length, IfOk, OnOk, IsErrOf};
+ghost use Rattle.query_tokens.specs.declared.piece.TheConstants.{LONGEST_QUERY};
 ghost use Rattle.query_words.specs.Words.{kinds_of};
 ghost use Rattle.query_grammar.specs.Groups.{IsGroupQuery, IsGroupFault};
 ghost use Rattle.pattern_parser.specs.declared.fault.QueryWhy.{QueryWhy};
@@ -16,7 +17,7 @@ use std::alloc::Global;
 /// What the tokens of a text say.
 fn words_of(alloc: Global, text: &[u8]) -> Result<Vec<Word>, GroupFault>
     ensures words { IfOk result (λ v. ReadsTokens text.now v.items) }
-    ensures few { IfOk result (λ v. length v.items ≤ 262144) }
+    ensures few { IfOk result (λ v. length v.items ≤ LONGEST_QUERY) }
     ensures bad { (w : GroupWhy) (at : ℕ) → IsErrOf result (GroupFault.Bad at w) → GroupFaultAt text.now w at }
 {
     match token_words(alloc, text) {
@@ -28,7 +29,9 @@ fn words_of(alloc: Global, text: &[u8]) -> Result<Vec<Word>, GroupFault>
 /// Finds the first token with which the tokens so far begin no query with groups.
 fn check_grammar(alloc: Global, words: &[Word], end: usize) -> Result<(), GroupFault>
     ensures ok { OnOk result (IsGroupQuery (kinds_of words.now)) }
-    ensures bad { (w : GroupWhy) (at : ℕ) → IsErrOf result (GroupFault.Bad at w) → (w ≡ GroupWhy.Basic QueryWhy.Grammar) × (n : ℕ) × IsGroupFault (kinds_of words.now) n × (at ≡ place_or words.now n end) }
+    ensures bad { (w : GroupWhy) (at : ℕ) → IsErrOf result (GroupFault.Bad at w)
+        → (w ≡ GroupWhy.Basic QueryWhy.Grammar)
+        × (n : ℕ) × IsGroupFault (kinds_of words.now) n × (at ≡ place_or words.now n end) }
 {
     let kinds = kinds_of(alloc, words)?;
     match group_fault(alloc, kinds.as_slice()) {
@@ -46,7 +49,7 @@ fn check_grammar(alloc: Global, words: &[Word], end: usize) -> Result<(), GroupF
 /// where memory runs out.
 pub fn group_words(alloc: Global, text: &[u8]) -> Result<Vec<Word>, GroupFault>
     ensures words { IfOk result (λ v. ReadsGroupWords text.now v.items) }
-    ensures few { IfOk result (λ v. length v.items ≤ 262144) }
+    ensures few { IfOk result (λ v. length v.items ≤ LONGEST_QUERY) }
     ensures bad { (w : GroupWhy) (at : ℕ) → IsErrOf result (GroupFault.Bad at w) → GroupFaultAt text.now w at }
 {
     let words = words_of(alloc, text)?;
