@@ -11,6 +11,7 @@ use Rattle.pattern_parser.specs.Queries.{is_brace, has_star}
 use Rattle.group_query.specs.declared.step.Step.{Step}
 use Rattle.group_query.specs.Trees.{Tree, steps_of, tree_of, IsPostfix, TreeFits, GroupData}
 use Rattle.group_query.proofs.Trees.{tree_back, is_postfix}
+use Rattle.group_faults.specs.declared.limits.TheConstants.{MOST_OPEN}
 use Rattle.group_faults.specs.declared.fault.GroupWhy.{GroupWhy}
 use Rattle.group_faults.specs.Faults.{group_fault_with, group_fault}
 use Rattle.group_parser.specs.Groups.{IsGroup}
@@ -30,23 +31,23 @@ pub record Built (iri : Iri) (select block : List Word) (steps : List Step) (nam
   pub postfix : IsPostfix steps
   pub fits : TreeFits (length names) (tree_of steps)
   pub grows : length (names_after [] 0 select) ≤ length names
-  pub group : IsGroup iri 32 (names_after [] 0 select) block (tree_of steps) names
+  pub group : IsGroup iri MOST_OPEN (names_after [] 0 select) block (tree_of steps) names
 
 pub built : (iri : Iri) (select block : List Word) (steps : List Step) (first names : List (List ℕ)) → IsProduced iri select block → first ≡ names_after [] 0 select → steps ≡ steps_read iri first block → names ≡ names_read iri first block → Built iri select block steps names
 built iri select block steps first names p f s n =
     let start = names_after [] 0 select in
-    let r = group_read 32 iri start block p.0 p.1 p.2 in
+    let r = group_read MOST_OPEN iri start block p.0 p.1 p.2 in
     let e : steps ≡ steps_of p.0 = s ∙ ap (λ (l : List (List ℕ)). steps_read iri l block) f ∙ r.0 in
     let m : names ≡ p.1 = n ∙ ap (λ (l : List (List ℕ)). names_read iri l block) f ∙ r.1 in
     let t : tree_of steps ≡ p.0 = ap tree_of e ∙ tree_back p.0 in
-    let g = group_fits 32 iri start block p.0 p.1 p.2 in
+    let g = group_fits MOST_OPEN iri start block p.0 p.1 p.2 in
     let fits : TreeFits (length names) p.0 = subst (λ (l : List (List ℕ)). TreeFits (length l) p.0) (sym m) g.1 in
-    let group : IsGroup iri 32 start block p.0 names = subst (λ (l : List (List ℕ)). IsGroup iri 32 start block p.0 l) (sym m) p.2 in
+    let group : IsGroup iri MOST_OPEN start block p.0 names = subst (λ (l : List (List ℕ)). IsGroup iri MOST_OPEN start block p.0 l) (sym m) p.2 in
     record {
       postfix = subst IsPostfix (sym e) (is_postfix p.0);
       fits = subst (λ (u : Tree). TreeFits (length names) u) (sym t) fits;
       grows = subst (λ (l : List (List ℕ)). length start ≤ length l) (sym m) g.0;
-      group = subst (λ (u : Tree). IsGroup iri 32 start block u names) (sym t) group;
+      group = subst (λ (u : Tree). IsGroup iri MOST_OPEN start block u names) (sym t) group;
     }
 
 chosen_is : (b : Bool) (c : Bool) (names start first slice : List (List ℕ)) (numbers selected : List ℕ) → b ≡ c → slice ≡ names → first ≡ start → numbers ≡ variable_numbers 0 first → selected ≡ (if b then variable_numbers 0 slice else numbers) → selected ≡ variable_numbers 0 (if c then names else start)

@@ -37,7 +37,7 @@ both_fit n (b ∷ bs) cs f g = (f.0, both_fit n bs cs f.1 g)
 tree_grows : (m n : ℕ) (t : Tree) → m ≤ n → TreeFits m t → TreeFits n t
 tree_grows m n t l f = blocks_grow m n (blocks_of t) l f
 
-blocks_joined : (a b : Tree) → blocks_of (joined a b) ≡ blocks_of a ++ blocks_of b
+pub blocks_joined : (a b : Tree) → blocks_of (joined a b) ≡ blocks_of a ++ blocks_of b
 blocks_joined empty b = refl
 blocks_joined a empty = sym (append-nil (blocks_of a))
 blocks_joined a b = refl

@@ -6,6 +6,7 @@ use Rattle.query_words.specs.declared.word.Value.{Value}
 use Rattle.query_words.specs.declared.word.Value.TheVariants as values
 use Rattle.query_words.specs.declared.word.Word.{Word}
 use Rattle.query_words.specs.Words.{kind_of, kinds_of}
+use Rattle.query_words.proofs.Values.{open_value, close_value}
 use Rattle.regular_expressions.specs.Regular.{Regular, many}
 use Rattle.regular_expressions.specs.Combinators.{◌·◌, ◌∣◌, maybe}
 use Rattle.query_grammar.specs.declared.kind.Kind.TheVariants as kinds
@@ -19,6 +20,7 @@ use Rattle.pattern_parser.specs.Productions as productions
 use Rattle.pattern_parser.proofs.Splits.{Is, Are, flat, seq_split, none, many_split, one, marked}
 use Rattle.pattern_parser.proofs.Blocks.{It, block_read}
 use Rattle.group_query.specs.Trees.{Tree, empty}
+use Rattle.group_faults.specs.declared.limits.TheConstants.{MOST_OPEN}
 use Rattle.group_faults.specs.Signs.{sign_of, is_other}
 use Rattle.group_faults.specs.Faults.{depth_after, place_unless, deep_from}
 use Rattle.group_parser.specs.Groups.{Element, Triples, Groups, Optional, translated, AreApart, Reading, IsBlock, IsMaybeDot, AreUnions, AreElements, IsGroup}
@@ -28,14 +30,6 @@ abbrev pub Iri : Type 0
 Iri = List ℕ → Option (List ℕ)
 
 -- ---- words by their kinds
-
-pub open_value : (v : Value) → kind_of v ≡ kinds.OpenBrace → v ≡ values.OpenBrace
-open_value values.OpenBrace e = refl
-open_value _ e = cc
-
-pub close_value : (v : Value) → kind_of v ≡ kinds.CloseBrace → v ≡ values.CloseBrace
-close_value values.CloseBrace e = refl
-close_value _ e = cc
 
 union_value : (v : Value) → kind_of v ≡ kinds.UnionWord → v ≡ values.UnionWord
 union_value values.UnionWord e = refl
@@ -77,13 +71,13 @@ skip_dot d (u ∷ v ∷ us) ts h = absurd h
 abbrev pub IsShallow : ℕ → List Word → Type 0
 IsShallow d ws = deep_from d ws ≡ None
 
--- a brace may open only inside fewer than 32 groups
-opened_depth : (d : ℕ) (w : Word) (ts : List Word) → w.value ≡ values.OpenBrace → IsShallow d (w ∷ ts) → (d < 32) × IsShallow (d + 1) ts
+-- a brace may open only inside fewer than MOST_OPEN groups
+opened_depth : (d : ℕ) (w : Word) (ts : List Word) → w.value ≡ values.OpenBrace → IsShallow d (w ∷ ts) → (d < MOST_OPEN) × IsShallow (d + 1) ts
 opened_depth d w ts e h =
-    let there : place_unless w.at (if nat_lt d 32 then Some (d + 1) else None) (λ n. deep_from n ts) ≡ None = ap (λ (v : Value). place_unless w.at (depth_after d v) (λ n. deep_from n ts)) (sym e) ∙ h in
-    pick (nat_lt d 32) refl there
+    let there : place_unless w.at (if nat_lt d MOST_OPEN then Some (d + 1) else None) (λ n. deep_from n ts) ≡ None = ap (λ (v : Value). place_unless w.at (depth_after d v) (λ n. deep_from n ts)) (sym e) ∙ h in
+    pick (nat_lt d MOST_OPEN) refl there
   where
-    pick : (b : Bool) → nat_lt d 32 ≡ b → place_unless w.at (if b then Some (d + 1) else None) (λ n. deep_from n ts) ≡ None → (d < 32) × IsShallow (d + 1) ts
+    pick : (b : Bool) → nat_lt d MOST_OPEN ≡ b → place_unless w.at (if b then Some (d + 1) else None) (λ n. deep_from n ts) ≡ None → (d < MOST_OPEN) × IsShallow (d + 1) ts
     pick true f h = (grind (arith, f), h)
     pick false f h = absurd (cc)
 
@@ -225,7 +219,7 @@ parts_made iri g G d f names (x ∷ xs) rest h s =
 
 -- ---- groups
 
-pub group_made : (n : ℕ) (iri : Iri) (d k : ℕ) → d + k ≡ 32 → Makes (group_of n) (IsGroup iri k) d
+pub group_made : (n : ℕ) (iri : Iri) (d k : ℕ) → d + k ≡ MOST_OPEN → Makes (group_of n) (IsGroup iri k) d
 unfolding group_of
 group_made zero iri d k e names ws rest m s = absurd m
 group_made (suc n) iri d zero e names ws rest m s =
@@ -245,7 +239,7 @@ group_made (suc n) iri d (suc k) e names ws rest m s =
     let words : ws ≡ o.0 ∷ ((i.0 ++ flat xs.0) ++ close.0 ∷ []) = c.4 ∙ ap (λ (l : List Word). l ++ c.1) (o.2 ∙ ap (λ (l : List Word). o.0 ∷ l) inner) ∙ ap (λ (l : List Word). o.0 ∷ ((i.0 ++ flat xs.0) ++ l)) close.1 in
     let all : ws ++ rest ≡ o.0 ∷ ((i.0 ++ flat xs.0) ++ close.0 ∷ rest) = ap (λ (l : List Word). l ++ rest) words ∙ ap (λ (l : List Word). o.0 ∷ l) (append_assoc (i.0 ++ flat xs.0) (close.0 ∷ []) rest) in
     let deep = opened_depth d o.0 ((i.0 ++ flat xs.0) ++ close.0 ∷ rest) (open_value o.0.value o.3) (ap (deep_from d) (sym all) ∙ s) in
-    let next : d + 1 + k ≡ 32 = omega (arith, e) in
+    let next : d + 1 + k ≡ MOST_OPEN = omega (arith, e) in
     let r = block_first iri (IsGroup iri k) (d + 1) names i.0 (flat xs.0) (close.0 ∷ rest) i.2 (λ ns h. parts_made iri (group_of n) (IsGroup iri k) (d + 1) (group_made n iri (d + 1) k next) ns xs.0 (close.0 ∷ rest) xs.1 h) deep.1 in (
       translated empty r.0,
       r.1,

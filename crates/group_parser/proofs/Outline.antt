@@ -11,6 +11,7 @@ use Rattle.pattern_parser.specs.Queries.{is_select, is_brace, body, block}
 use Rattle.pattern_parser.proofs.Splits.{Is, seq_split, one, marked}
 use Rattle.pattern_parser.proofs.Outline.{prefix_part, chosen, where_word, NonePass, select_kind, brace_kind, none_of, both_none, is_select-kind, is_brace-kind, back, select_no_brace}
 use Rattle.group_query.specs.Trees.{Tree}
+use Rattle.group_faults.specs.declared.limits.TheConstants.{MOST_OPEN}
 use Rattle.group_parser.specs.Groups.{IsGroup}
 use Rattle.group_parser.proofs.Made.{IsShallow, group_made}
 
@@ -72,10 +73,10 @@ block_is n ws l =
     ap block (body_is ∙ braced) ∙ back is_brace (l.select ∷ l.names) b.0 b.1 (select_no_brace l.select.value l.select_is, l.names_are) (is_brace-kind b.0.value b.3) ∙ sym b.2
 
 -- the words from the first brace on are a group
-pub is_made : (iri : List ℕ → Option (List ℕ)) (names : List (List ℕ)) (ws : List Word) → IsGroupQuery (kinds_of ws) → IsShallow 0 (block (body ws)) → (t : Tree) × (names' : List (List ℕ)) × IsGroup iri 32 names (block (body ws)) t names'
+pub is_made : (iri : List ℕ → Option (List ℕ)) (names : List (List ℕ)) (ws : List Word) → IsGroupQuery (kinds_of ws) → IsShallow 0 (block (body ws)) → (t : Tree) × (names' : List (List ℕ)) × IsGroup iri MOST_OPEN names (block (body ws)) t names'
 is_made iri names ws q s =
     let l = group_outline q.0 ws q.1 in
     let same = block_is q.0 ws l in
     let flat : IsShallow 0 (l.group ++ []) = subst (IsShallow 0) (same ∙ sym (append-nil l.group)) s in
-    let m = group_made q.0 iri 0 32 refl names l.group [] l.group_is flat in
-    (m.0, m.1, subst (λ (y : List Word). IsGroup iri 32 names y m.0 m.1) (sym same) m.2)
+    let m = group_made q.0 iri 0 MOST_OPEN refl names l.group [] l.group_is flat in
+    (m.0, m.1, subst (λ (y : List Word). IsGroup iri MOST_OPEN names y m.0 m.1) (sym same) m.2)

@@ -17,6 +17,7 @@ use Rattle.query_words.specs.declared.word.Value.{Value}
 use Rattle.query_words.specs.declared.word.Value.TheVariants as values
 use Rattle.query_words.specs.declared.word.Word.{Word}
 use Rattle.query_words.specs.Words.{kind_of, kinds_of, words_of}
+use Rattle.query_words.proofs.Values.{open_value, close_value}
 use Rattle.pattern_parser.specs.declared.fault.QueryWhy.{QueryWhy}
 use Rattle.pattern_parser.specs.declared.fault.QueryWhy.TheVariants as why
 use Rattle.pattern_parser.specs.declared.item.Item.{Item}
@@ -26,11 +27,13 @@ use Rattle.pattern_parser.specs.Items.{string_before, string_term, part_of, more
 use Rattle.pattern_parser.specs.Triples.{triples_after}
 use Rattle.pattern_parser.specs.Prefixes.{before}
 use Rattle.pattern_parser.specs.Queries.{is_select, is_brace, prefixes, body, block, select_part, select_names, has_star, names_of, triples_of, query_of, excess, fault_or, first_of, term_fault, later_fault, place_or, Reads, ReadsTokens, ReadsQuery, IsGrammarAt, IsLaterAt, FaultAt, IsTokenFaultAt}
+use Rattle.pattern_parser.proofs.Shorts.{as_tokens}
 use Rattle.pattern_parser.proofs.Splits.{Is, none}
 use Rattle.pattern_parser.proofs.Nexts.{FirstIri, Nexts, keeps_block}
 use Rattle.pattern_parser.proofs.Outline.{Outline, outline, block_is}
 use Rattle.group_query.specs.Trees.{Tree, empty}
 use Rattle.group_query.specs.Trees as trees
+use Rattle.group_faults.specs.declared.limits.TheConstants.{MOST_OPEN}
 use Rattle.group_faults.specs.declared.fault.GroupWhy.{GroupWhy}
 use Rattle.group_faults.specs.declared.fault.GroupWhy.TheVariants.{Basic, TooDeep, SharedBlank}
 use Rattle.group_faults.specs.Signs.{sign_of, is_other, runs_after, runs_of}
@@ -40,7 +43,7 @@ use Rattle.group_parser.specs.Groups.{Triples, IsBlock, IsGroup}
 use Rattle.group_parser.specs.Walks.{patterns_of}
 use Rattle.group_parser.specs.Texts.{is_distinct, has_distinct, IsGroupIn, ReadsGroups, IsPlainText, one_block, as_groups}
 use Rattle.group_parser.proofs.Walked.{AllOther, block_other, block_some, block_is_read}
-use Rattle.group_parser.proofs.Made.{block_made, open_value, close_value, skip_others}
+use Rattle.group_parser.proofs.Made.{block_made, skip_others}
 use Rattle.group_parser.proofs.Texts.{one_words, query_made}
 
 abbrev pub Iri : Type 0
@@ -202,16 +205,16 @@ plain_fault ws q =
 -- ---- the query
 
 -- the words from the brace on are the one block, or nothing
-block_group : (iri : Iri) (names : List (List ℕ)) (b : List Word) (k : Braces b) → IsGroup iri 32 names b (one_block (map (λ p. p.pattern) (triples_after None None (items_after iri names 0 b)))) (names_after names 0 b)
+block_group : (iri : Iri) (names : List (List ℕ)) (b : List Word) (k : Braces b) → IsGroup iri MOST_OPEN names b (one_block (map (λ p. p.pattern) (triples_after None None (items_after iri names 0 b)))) (names_after names 0 b)
 block_group iri names b k = pick k.inner_is
   where
     same : map (λ p. p.pattern) (triples_after None None (items_after iri names 0 b)) ≡ patterns_of iri names k.inner
     same = ap (λ (is : List Item). map (λ p. p.pattern) (triples_after None None is)) (braced_items iri names b k)
 
-    made : IsGroup iri 32 names b (one_block (patterns_of iri names k.inner)) (names_after names 0 k.inner) → IsGroup iri 32 names b (one_block (map (λ p. p.pattern) (triples_after None None (items_after iri names 0 b)))) (names_after names 0 b)
-    made g = subst (λ (l : List Pattern). IsGroup iri 32 names b (one_block l) (names_after names 0 b)) (sym same) (subst (λ (l : List (List ℕ)). IsGroup iri 32 names b (one_block (patterns_of iri names k.inner)) l) (sym (braced_names names b k)) g)
+    made : IsGroup iri MOST_OPEN names b (one_block (patterns_of iri names k.inner)) (names_after names 0 k.inner) → IsGroup iri MOST_OPEN names b (one_block (map (λ p. p.pattern) (triples_after None None (items_after iri names 0 b)))) (names_after names 0 b)
+    made g = subst (λ (l : List Pattern). IsGroup iri MOST_OPEN names b (one_block l) (names_after names 0 b)) (sym same) (subst (λ (l : List (List ℕ)). IsGroup iri MOST_OPEN names b (one_block (patterns_of iri names k.inner)) l) (sym (braced_names names b k)) g)
 
-    pick : Is (maybe grammar.block) k.inner → IsGroup iri 32 names b (one_block (map (λ p. p.pattern) (triples_after None None (items_after iri names 0 b)))) (names_after names 0 b)
+    pick : Is (maybe grammar.block) k.inner → IsGroup iri MOST_OPEN names b (one_block (map (λ p. p.pattern) (triples_after None None (items_after iri names 0 b)))) (names_after names 0 b)
     pick (inl m) =
         let r = block_made iri names k.inner m in
         let s = block_some (items_after iri names 0 k.inner) r.1.triples r.1.produced in
@@ -294,19 +297,16 @@ plain_group ws p q =
 pub plain_words : (text : List ℕ) (ws : List Word) → IsPlainText text → ReadsTokens text ws → ArePlain 1 (kinds_of ws)
 plain_words text ws p t = subst (λ (l : List Word). ArePlain 1 (kinds_of l)) (one_words text p.words ws p.tokens t) p.plain
 
-tokens_of : (text : List ℕ) (ws : List Word) → Reads text ws → ReadsTokens text ws
-tokens_of text ws r = record { short = r.short; utf8 = r.utf8; tokens = r.tokens; are = r.are; words = r.words }
-
 -- what the grammar of queries reads that of groups reads as well
 group_words : PlainIsQuery → (text : List ℕ) (ws : List Word) → IsPlainText text → Reads text ws → ReadsGroupWords text ws
 group_words law text ws p r =
-    let t = tokens_of text ws r in
+    let t = as_tokens text ws r in
     record { tokens = t; query = law.query (kinds_of ws) (plain_words text ws p t) r.query }
 
 pub plain_query : PlainIsQuery → (text : List ℕ) (q : QueryData) → IsPlainText text → ReadsQuery text q → ReadsGroups text (as_groups q)
 plain_query law text q p r =
     let ws = r.words in
-    let there : IsGroupIn (prefixes ws) (select_part (body ws)) (block (body ws)) (as_groups q) = subst (λ (d : QueryData). IsGroupIn (prefixes ws) (select_part (body ws)) (block (body ws)) (as_groups d)) (sym r.is) (plain_group ws (plain_words text ws p (tokens_of text ws r.reads)) r.reads.query) in
+    let there : IsGroupIn (prefixes ws) (select_part (body ws)) (block (body ws)) (as_groups q) = subst (λ (d : QueryData). IsGroupIn (prefixes ws) (select_part (body ws)) (block (body ws)) (as_groups d)) (sym r.is) (plain_group ws (plain_words text ws p (as_tokens text ws r.reads)) r.reads.query) in
     record { words = ws; reads = group_words law text ws p r.reads; fine = plain_fault ws r.reads.query ∙ ap as_basic r.fine; is = there }
 
 later_plain : PlainIsQuery → (text : List ℕ) (w : QueryWhy) (at : ℕ) → IsPlainText text → IsLaterAt text w at → IsLaterGroupFault text (Basic w) at

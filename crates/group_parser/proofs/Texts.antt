@@ -4,6 +4,7 @@ use Rattle.std.proofs.Common.{ℕ, ◌≡◌, ◌⊎◌, inl, inr, ◌<◌, ◌�
 use Rattle.std.specs.Str.{chars, IsUtf8, IsValidUpTo}
 use Rattle.std.proofs.lemmas.Str.{utf8_valid_len-IsValidUpTo}
 use Rattle.bgp_core.specs.Queries.{QueryData}
+use Rattle.query_tokens.specs.declared.piece.TheConstants.{LONGEST_QUERY}
 use Rattle.query_tokens.specs.declared.piece.Piece.{Piece}
 use Rattle.query_tokens.specs.Pieces.{AreTokens, byte_place}
 use Rattle.query_tokens.proofs.Pieces.{one_tokens, one_fault, apart}
@@ -21,6 +22,7 @@ use Rattle.pattern_parser.specs.Queries.{prefixes, body, block, select_part, sel
 use Rattle.pattern_parser.proofs.OneQuery.{token_apart}
 use Rattle.group_query.specs.Trees.{Tree, steps_of, tree_of, GroupData}
 use Rattle.group_query.proofs.Trees.{tree_back, is_postfix}
+use Rattle.group_faults.specs.declared.limits.TheConstants.{MOST_OPEN}
 use Rattle.group_faults.specs.declared.fault.GroupWhy.{GroupWhy}
 use Rattle.group_faults.specs.declared.fault.GroupWhy.TheVariants.{Basic, TooDeep, SharedBlank}
 use Rattle.group_faults.specs.Signs.{runs_of}
@@ -59,8 +61,8 @@ shallow ws e =
 
 one_group : (iri : Iri) (select b : List Word) (g h : GroupData) → IsGroupIn iri select b g → IsGroupIn iri select b h → g ≡ h
 one_group iri select b g h p q =
-    let x = group_read 32 iri (names_after [] 0 select) b (tree_of g.steps) g.names p.group in
-    let y = group_read 32 iri (names_after [] 0 select) b (tree_of h.steps) h.names q.group in
+    let x = group_read MOST_OPEN iri (names_after [] 0 select) b (tree_of g.steps) g.names p.group in
+    let y = group_read MOST_OPEN iri (names_after [] 0 select) b (tree_of h.steps) h.names q.group in
     let steps : g.steps ≡ h.steps = p.postfix ∙ sym x.0 ∙ y.0 ∙ sym q.postfix in
     let names : g.names ≡ h.names = sym x.1 ∙ y.1 in
     let selected : g.selected ≡ h.selected = p.selected ∙ ap (λ (l : List (List ℕ)). variable_numbers 0 (if has_star select then l else names_after [] 0 select)) names ∙ sym q.selected in
@@ -100,14 +102,14 @@ query_apart text g _ n r f = later_apart text g _ n r f
 abbrev Same : GroupWhy → ℕ → GroupWhy → ℕ → Type 0
 Same v m w n = (v ≡ w) × (m ≡ n)
 
-long_first : (text : List ℕ) (m : ℕ) (w : GroupWhy) (n : ℕ) → 262144 < length text → m ≡ 262144 → GroupFaultAt text w n → Same (Basic why.TooLong) m w n
+long_first : (text : List ℕ) (m : ℕ) (w : GroupWhy) (n : ℕ) → LONGEST_QUERY < length text → m ≡ LONGEST_QUERY → GroupFaultAt text w n → Same (Basic why.TooLong) m w n
 long_first text m (Basic why.TooLong) n l e f = (refl, e ∙ sym f.1)
 long_first text m (Basic why.Utf8) n l e f = let s = f.0 in absurd (omega arith)
 long_first text m (Basic why.Token) n l e f = let s = f.short in absurd (omega arith)
 long_first text m (Basic why.Grammar) n l e f = let s = f.tokens.short in absurd (omega arith)
 long_first text m _ n l e f = let s = f.reads.tokens.short in absurd (omega arith)
 
-utf8_first : (text : List ℕ) (m : ℕ) (w : GroupWhy) (n : ℕ) → length text ≤ 262144 → (IsUtf8 text → ⊥) → IsValidUpTo text m → GroupFaultAt text w n → Same (Basic why.Utf8) m w n
+utf8_first : (text : List ℕ) (m : ℕ) (w : GroupWhy) (n : ℕ) → length text ≤ LONGEST_QUERY → (IsUtf8 text → ⊥) → IsValidUpTo text m → GroupFaultAt text w n → Same (Basic why.Utf8) m w n
 utf8_first text m (Basic why.TooLong) n s u v f = let l = f.0 in absurd (omega arith)
 utf8_first text m (Basic why.Utf8) n s u v f = (refl, sym (utf8_valid_len-IsValidUpTo text m v) ∙ utf8_valid_len-IsValidUpTo text n f.2)
 utf8_first text m (Basic why.Token) n s u v f = absurd (u f.utf8)
@@ -216,9 +218,9 @@ pub later_fault_at : (text : List ℕ) (ws : List Word) (w : GroupWhy) (n : ℕ)
 later_fault_at text ws w n r e = late_is text w n (subst LateFault e (late ws)) (record { words = ws; reads = r; is = e })
 
 -- the query of tokens without a fault
-pub query_made : (iri : Iri) (select b : List Word) (t : Tree) (names : List (List ℕ)) → IsGroup iri 32 (names_after [] 0 select) b t names → IsGroupIn iri select b (record { steps = steps_of t; names = names; selected = variable_numbers 0 (if has_star select then names else names_after [] 0 select); distinct = has_distinct select })
+pub query_made : (iri : Iri) (select b : List Word) (t : Tree) (names : List (List ℕ)) → IsGroup iri MOST_OPEN (names_after [] 0 select) b t names → IsGroupIn iri select b (record { steps = steps_of t; names = names; selected = variable_numbers 0 (if has_star select then names else names_after [] 0 select); distinct = has_distinct select })
 query_made iri select b t names m = record {
-  group = subst (λ (u : Tree). IsGroup iri 32 (names_after [] 0 select) b u names) (sym (tree_back t)) m;
+  group = subst (λ (u : Tree). IsGroup iri MOST_OPEN (names_after [] 0 select) b u names) (sym (tree_back t)) m;
   postfix = is_postfix t;
   selected = refl;
   distinct = refl;

@@ -13,6 +13,7 @@ use Rattle.pattern_parser.specs.Items.{names_after}
 use Rattle.pattern_parser.specs.Queries.{prefixes, body, block, select_part, has_star, ReadsTokens, ReadsQuery, FaultAt, IsTokenFaultAt}
 use Rattle.group_query.specs.Trees as trees
 use Rattle.group_query.specs.Trees.{Tree, steps_of, tree_of, IsPostfix, GroupData}
+use Rattle.group_faults.specs.declared.limits.TheConstants.{MOST_OPEN}
 use Rattle.group_faults.specs.declared.fault.GroupWhy.{GroupWhy}
 use Rattle.group_faults.specs.declared.fault.GroupWhy.TheVariants.{Basic}
 use Rattle.group_faults.specs.Faults.{group_fault, ReadsGroupWords, GroupFaultAt}
@@ -29,9 +30,9 @@ abbrev pub has_distinct : List Word → Bool
 has_distinct [] = false
 has_distinct (w ∷ ws) = is_distinct w.value || has_distinct ws
 
--- The tokens of the SELECT part and those from the first brace on are this query: its group is nested at most 32 deep; its names are numbered by their first place; with '*' all variables are selected, by their first place.
+-- The tokens of the SELECT part and those from the first brace on are this query: its group is nested at most MOST_OPEN deep; its names are numbered by their first place; with '*' all variables are selected, by their first place.
 pub record IsGroupIn (iri : List ℕ → Option (List ℕ)) (select block : List Word) (g : GroupData) : Type 0 where
-  pub group : IsGroup iri 32 (names_after [] 0 select) block (tree_of g.steps) g.names
+  pub group : IsGroup iri MOST_OPEN (names_after [] 0 select) block (tree_of g.steps) g.names
   pub postfix : IsPostfix g.steps
   pub selected : g.selected ≡ variable_numbers 0 (if has_star select then g.names else names_after [] 0 select)
   pub distinct : g.distinct ≡ has_distinct select

@@ -1,6 +1,7 @@
 // A query with groups from its tokens.
 ghost use Rattle.std.specs.Prelude.{◌≡◌, ◌≤◌, ◌+◌, length, IfOk};
 ghost use Rattle.std.specs.BTreeMap.{get_by_text};
+ghost use Rattle.query_tokens.specs.declared.piece.TheConstants.{LONGEST_QUERY};
 ghost use Rattle.group_parser.specs.Texts.{is_distinct, has_distinct, IsGroupIn};
 ghost use Rattle.group_parser.specs.Building.{IsProduced};
 
@@ -37,7 +38,7 @@ pub fn build(
     select: &[Word],
     block: &[Word],
 ) -> Result<GroupQuery, OutOfMemory>
-    requires few { length select.now + length block.now ≤ 262144 }
+    requires few { length select.now + length block.now ≤ LONGEST_QUERY }
     requires group { IsProduced (λ q. get_by_text prefixes.now q) select.now block.now }
     ensures { IfOk result (λ g. IsGroupIn (λ q. get_by_text prefixes.now q) select.now block.now g) }
 {

@@ -10,7 +10,8 @@
 #![tactic(auto)]
 
 mod build;
+pub mod laws;
 mod reading;
 mod walk;
 
-pub use reading::{Asked, one_group_query, parse_asked, parse_group, plain_texts_agree};
+pub use reading::{Asked, parse_asked, parse_group};

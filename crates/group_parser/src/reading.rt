@@ -1,12 +1,13 @@
 // The query with groups that a text is.
 ghost use Rattle.std.specs.Prelude.{◌≡◌, ◌≤◌, ℕ, length, IfOk, OnOk, IsErrOf, Some, None};
 ghost use Rattle.std.specs.BTreeMap.{get_by_text};
+ghost use Rattle.query_tokens.specs.declared.piece.TheConstants.{LONGEST_QUERY};
 ghost use Rattle.query_words.specs.Words.{kinds_of};
 ghost use Rattle.query_grammar.specs.Groups.{IsGroupQuery, ArePlain};
 ghost use Rattle.pattern_parser.specs.Queries as queries;
 ghost use Rattle.group_faults.specs.declared.fault.GroupWhy.{GroupWhy};
 ghost use Rattle.group_faults.specs.Faults.{group_fault, GroupFaultAt};
-ghost use Rattle.group_parser.specs.Texts.{IsGroupText, ReadsGroups, OneGroupQuery, PlainTextsAgree};
+ghost use Rattle.group_parser.specs.Texts.{IsGroupText, ReadsGroups};
 ghost use Rattle.group_parser.specs.Asking.{IsAsked, IsAskedBy, IsPlainQuery};
 
 use crate::build::build;
@@ -14,9 +15,9 @@ use bgp_core::Query;
 use group_faults::{GroupFault, as_group_fault, check_groups, group_words};
 use group_query::GroupQuery;
 use pattern_parser::{
-    Prefixes, before_brace, before_select, is_plain, one_query, prefixes_of, query_of_words,
+    Prefixes, before_brace, before_select, is_plain, prefixes_of, query_of_words,
 };
-use query_grammar::groups::{one_group_fault, plain_is_query};
+use query_grammar::laws;
 use query_words::word::Word;
 use std::alloc::Global;
 
@@ -28,13 +29,14 @@ fn query_with(
     words: &[Word],
     body: &[Word],
 ) -> Result<GroupQuery, GroupFault>
-    requires few { length body.now ≤ 262144 }
+    requires few { length body.now ≤ LONGEST_QUERY }
     requires query { IsGroupQuery (kinds_of words.now) }
     requires body { body.now ≡ queries.body words.now }
     requires prefixes { (λ q. get_by_text prefixes.now q) ≡ queries.prefixes words.now }
     ensures fine { OnOk result (group_fault words.now ≡ None) }
     ensures query { IfOk result (λ g. IsGroupText (queries.prefixes words.now) (queries.body words.now) g) }
-    ensures bad { (w : GroupWhy) (at : ℕ) → IsErrOf result (GroupFault.Bad at w) → group_fault words.now ≡ Some (w, at) }
+    ensures bad { (w : GroupWhy) (at : ℕ) → IsErrOf result (GroupFault.Bad at w)
+        → group_fault words.now ≡ Some (w, at) }
 {
     check_groups(alloc, prefixes, words, body)?;
     let (select, block) = body.split_at(before_brace(body));
@@ -43,11 +45,12 @@ fn query_with(
 
 /// The query with groups of tokens that the grammar reads, or the first fault of what they say.
 fn group_query_of(alloc: Global, words: &[Word]) -> Result<GroupQuery, GroupFault>
-    requires few { length words.now ≤ 262144 }
+    requires few { length words.now ≤ LONGEST_QUERY }
     requires query { IsGroupQuery (kinds_of words.now) }
     ensures fine { OnOk result (group_fault words.now ≡ None) }
     ensures query { IfOk result (λ g. IsGroupText (queries.prefixes words.now) (queries.body words.now) g) }
-    ensures bad { (w : GroupWhy) (at : ℕ) → IsErrOf result (GroupFault.Bad at w) → group_fault words.now ≡ Some (w, at) }
+    ensures bad { (w : GroupWhy) (at : ℕ) → IsErrOf result (GroupFault.Bad at w)
+        → group_fault words.now ≡ Some (w, at) }
 {
     let (prologue, body) = words.split_at(before_select(words));
     let prefixes = prefixes_of(alloc, prologue)?;
@@ -55,7 +58,7 @@ fn group_query_of(alloc: Global, words: &[Word]) -> Result<GroupQuery, GroupFaul
 }
 
 /// The query with groups that a text is (SPARQL 1.1, sections 5, 6, 7, 15.3 and 18.2): blocks of triple
-/// patterns, groups, UNION and OPTIONAL, nested at most 32 deep, with `SELECT` or `SELECT DISTINCT`.
+/// patterns, groups, UNION and OPTIONAL, nested at most `MOST_OPEN` (32) deep, with `SELECT` or `SELECT DISTINCT`.
 /// `Bad` exactly where it is none, with its first fault and its place; `OutOfMemory` comes only where memory
 /// runs out.
 pub fn parse_group(alloc: Global, text: &[u8]) -> Result<GroupQuery, GroupFault>
@@ -76,13 +79,14 @@ pub enum Asked {
 /// The query of tokens with at most one opening brace and none of DISTINCT, OPTIONAL and UNION, which the
 /// grammar of groups reads.
 fn plain_query_of(alloc: Global, words: &[Word]) -> Result<Query, GroupFault>
-    requires few { length words.now ≤ 262144 }
+    requires few { length words.now ≤ LONGEST_QUERY }
     requires query { IsGroupQuery (kinds_of words.now) }
     requires plain { ArePlain 1 (kinds_of words.now) }
     ensures query { IfOk result (λ q. IsPlainQuery words.now q) }
-    ensures bad { (w : GroupWhy) (at : ℕ) → IsErrOf result (GroupFault.Bad at w) → group_fault words.now ≡ Some (w, at) }
+    ensures bad { (w : GroupWhy) (at : ℕ) → IsErrOf result (GroupFault.Bad at w)
+        → group_fault words.now ≡ Some (w, at) }
 {
-    plain_is_query();
+    laws::plain_is_query();
     match query_of_words(alloc, words) {
         Ok(query) => Ok(query),
         Err(fault) => Err(as_group_fault(fault)),
@@ -91,10 +95,11 @@ fn plain_query_of(alloc: Global, words: &[Word]) -> Result<Query, GroupFault>
 
 /// The query of tokens that the grammar of groups reads.
 fn asked_of(alloc: Global, words: &[Word]) -> Result<Asked, GroupFault>
-    requires few { length words.now ≤ 262144 }
+    requires few { length words.now ≤ LONGEST_QUERY }
     requires query { IsGroupQuery (kinds_of words.now) }
     ensures query { IfOk result (λ asked. IsAskedBy words.now asked) }
-    ensures bad { (w : GroupWhy) (at : ℕ) → IsErrOf result (GroupFault.Bad at w) → group_fault words.now ≡ Some (w, at) }
+    ensures bad { (w : GroupWhy) (at : ℕ) → IsErrOf result (GroupFault.Bad at w)
+        → group_fault words.now ≡ Some (w, at) }
 {
     if is_plain(words) {
         Ok(Asked::Plain(plain_query_of(alloc, words)?))
@@ -111,21 +116,4 @@ pub fn parse_asked(alloc: Global, text: &[u8]) -> Result<Asked, GroupFault>
 {
     let words = group_words(alloc, text)?;
     asked_of(alloc, words.as_slice())
-}
-
-/// A text is exactly one of the two: one query with groups, or a text with one first fault, which has a
-/// kind and a place.
-pub fn one_group_query()
-    ensures { OneGroupQuery }
-{
-    one_query();
-    one_group_fault();
-}
-
-/// A text whose tokens hold none of DISTINCT, OPTIONAL and UNION and at most one `{` is the same query for
-/// both readers, its patterns being the one block, or has the same fault.
-pub fn plain_texts_agree()
-    ensures { PlainTextsAgree }
-{
-    plain_is_query();
 }

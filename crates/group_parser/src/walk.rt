@@ -247,7 +247,8 @@ impl Walk {
     ) -> Result<(), OutOfMemory>
         requires numbered { AreNumbered names.old }
         requires few { length names.old.texts.items + length run.now < 2 ^ 32 - 1 }
-        ensures walk { OnOk result (self.new ≡ with_run (λ q. get_by_text prefixes.now q) names.old.texts.items run.now self.old) }
+        ensures walk { OnOk result (self.new ≡
+            with_run (λ q. get_by_text prefixes.now q) names.old.texts.items run.now self.old) }
         ensures names { OnOk result (names.new.texts.items ≡ names_after names.old.texts.items 0 run.now) }
         ensures numbered { OnOk result (AreNumbered names.new) }
         ensures few { OnOk result (length names.new.texts.items ≤ length names.old.texts.items + length run.now) }
@@ -277,7 +278,8 @@ impl Walk {
     ) -> Result<(), OutOfMemory>
         requires numbered { AreNumbered names.old }
         requires few { length names.old.texts.items + length run.now < 2 ^ 32 - 1 }
-        ensures walk { OnOk result (self.new ≡ with_sign sign (with_run (λ q. get_by_text prefixes.now q) names.old.texts.items run.now self.old)) }
+        ensures walk { OnOk result (self.new ≡
+            with_sign sign (with_run (λ q. get_by_text prefixes.now q) names.old.texts.items run.now self.old)) }
         ensures names { OnOk result (names.new.texts.items ≡ names_after names.old.texts.items 0 run.now) }
         ensures numbered { OnOk result (AreNumbered names.new) }
         ensures few { OnOk result (length names.new.texts.items ≤ length names.old.texts.items + length run.now) }
@@ -312,7 +314,9 @@ fn take_token(
     requires within { i < length words.now }
     requires numbered { AreNumbered names.old }
     requires few { length names.old.texts.items + (i - from) < 2 ^ 32 - 1 }
-    ensures walk { IfOk result (λ next. walked_from (λ q. get_by_text prefixes.now q) names.new.texts.items walk.new next (i + 1) words.now ≡ walked_from (λ q. get_by_text prefixes.now q) names.old.texts.items walk.old from i words.now) }
+    ensures walk { IfOk result (λ next.
+        walked_from (λ q. get_by_text prefixes.now q) names.new.texts.items walk.new next (i + 1) words.now
+        ≡ walked_from (λ q. get_by_text prefixes.now q) names.old.texts.items walk.old from i words.now) }
     ensures begun { IfOk result (λ next. (from ≤ next) × (next ≤ i + 1)) }
     ensures numbered { OnOk result (AreNumbered names.new) }
     ensures few { IfOk result (λ next. length names.new.texts.items + from ≤ length names.old.texts.items + next) }
@@ -335,8 +339,10 @@ pub fn steps_of(
 ) -> Result<Vec<Step>, OutOfMemory>
     requires numbered { AreNumbered names.old }
     requires few { length names.old.texts.items + length words.now < 2 ^ 32 - 1 }
-    ensures steps { IfOk result (λ v. v.items ≡ steps_read (λ q. get_by_text prefixes.now q) names.old.texts.items words.now) }
-    ensures names { OnOk result (names.new.texts.items ≡ names_read (λ q. get_by_text prefixes.now q) names.old.texts.items words.now) }
+    ensures steps { IfOk result (λ v. v.items ≡
+        steps_read (λ q. get_by_text prefixes.now q) names.old.texts.items words.now) }
+    ensures names { OnOk result (names.new.texts.items ≡
+        names_read (λ q. get_by_text prefixes.now q) names.old.texts.items words.now) }
     ensures few { OnOk result (length names.new.texts.items ≤ length names.old.texts.items + length words.now) }
 {
     let mut walk = Walk::new(alloc);

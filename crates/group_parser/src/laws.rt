@@ -1,0 +1,22 @@
+// Laws of the definitions.
+ghost use Rattle.group_parser.specs.Texts.{OneGroupQuery, PlainTextsAgree};
+
+use pattern_parser::laws::one_query;
+use query_grammar::laws::{one_group_fault, plain_is_query};
+
+/// A text is exactly one of the two: one query with groups, or a text with one first fault, which has a
+/// kind and a place.
+pub fn one_group_query()
+    ensures { OneGroupQuery }
+{
+    one_query();
+    one_group_fault();
+}
+
+/// A text whose tokens hold none of DISTINCT, OPTIONAL and UNION and at most one `{` is the same query for
+/// both readers, its patterns being the one block, or has the same fault.
+pub fn plain_texts_agree()
+    ensures { PlainTextsAgree }
+{
+    plain_is_query();
+}
