@@ -11,6 +11,7 @@ use Rattle.list_laws.proofs.Lists.{cons_same}
 use Rattle.rdf_terms.specs.declared.term.Term.{Term}
 use Rattle.bgp_core.specs.Solutions.{Places, term_at}
 use Rattle.bgp_core.specs.Merging.{kept, if_kept}
+use Rattle.bgp_core.proofs.Merging.{kept_at}
 use Rattle.row_algebra.specs.Algebra.{BindsOnly}
 use Rattle.group_rows.specs.Evaluation.{marked, selection}
 use Rattle.row_algebra.specs.Algebra.{HaveWidth}
@@ -29,16 +30,6 @@ cut_whole flags [] h = refl
 cut_whole flags (r ∷ rows) h = sym (cons_same (kept flags r) r (map (kept flags) rows) rows (kept_whole flags r h) (sym (cut_whole flags rows h)))
 
 -- ---- the names that a cut row binds
-
-kept_none : (b : Bool) → None ≡ if_kept b None
-kept_none true = refl
-kept_none false = refl
-
-kept_at : (flags : List Bool) (r : Places) (n : ℕ) → term_at (kept flags r) n ≡ if_kept (get_or flags n true) (term_at r n)
-kept_at [] r n = refl
-kept_at (b ∷ flags) [] n = kept_none (get_or (b ∷ flags) n true)
-kept_at (b ∷ flags) (o ∷ r) zero = refl
-kept_at (b ∷ flags) (o ∷ r) (suc n) = kept_at flags r n
 
 bound_within : (r : Places) (n : ℕ) (t : Term) → term_at r n ≡ Some t → n < length r
 bound_within [] n t e = absurd (none_not_some e)

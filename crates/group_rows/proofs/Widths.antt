@@ -1,10 +1,11 @@
 -- Rows keep as many places as names.
-use Rattle.std.proofs.Common.{ℕ, ◌≡◌, Bool, true, false, if◌then◌else◌, List, [], ◌∷◌, ◌++◌, length, map, None, refl, sym, subst, ◌∙◌, arith}
+use Rattle.std.proofs.Common.{ℕ, ◌≡◌, Bool, true, false, if◌then◌else◌, List, [], ◌∷◌, ◌++◌, length, map, None, sym, subst, ◌∙◌}
 use Rattle.std.proofs.Math.ListN.{length-replicate}
 use Rattle.std.specs.List.{AllByRecursion}
 use Rattle.list_laws.proofs.Each.{all_append, all_so, all_map, all_flat_map}
 use Rattle.bgp_core.specs.Solutions.{Places}
 use Rattle.bgp_core.specs.Merging.{compatible, merged, kept}
+use Rattle.bgp_core.proofs.Merging.{kept_length, merged_length}
 use Rattle.row_algebra.specs.Algebra.{merge, merges, or_alone, joined, optional}
 use Rattle.group_query.specs.declared.step.Step.{Step}
 use Rattle.group_query.specs.declared.step.Step.TheVariants as steps
@@ -12,16 +13,6 @@ use Rattle.group_rows.specs.Evaluation.{unbound, variables}
 use Rattle.group_rows.specs.Gathering.{first}
 use Rattle.group_rows.specs.Stacks.{rest, both, blocks_after, stack_after}
 use Rattle.row_algebra.specs.Algebra.{HaveWidth}
-
-pub kept_length : (flags : List Bool) (r : Places) → length (kept flags r) ≡ length r
-kept_length [] r = refl
-kept_length (b ∷ flags) [] = refl
-kept_length (b ∷ flags) (o ∷ r) = let e : length (kept flags r) ≡ length r = kept_length flags r in omega (arith, e)
-
-merged_length : (r s : Places) → length r ≡ length s → length (merged r s) ≡ length r
-merged_length [] s h = sym h
-merged_length (o ∷ r) [] h = refl
-merged_length (o ∷ r) (p ∷ s) h = let e : length (merged r s) ≡ length r = merged_length r s (omega (arith, h)) in omega (arith, e)
 
 module _ (n : ℕ) where
   pub cut_width : (flags : List Bool) (rows : List Places) → HaveWidth n rows → HaveWidth n (map (kept flags) rows)

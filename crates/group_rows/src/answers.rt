@@ -43,7 +43,8 @@ fn show(
     rows: Vec<Row>,
 ) -> Result<Vec<Row>, OutOfMemory>
     requires { HaveWidth (length shown.now.names) rows.items }
-    ensures { IfOk result (λ v. v.items ≡ once_if distinct (map (kept (selection shown.now.names shown.now.selected)) rows.items)) }
+    ensures { IfOk result (λ v. v.items ≡
+        once_if distinct (map (kept (selection shown.now.names shown.now.selected)) rows.items)) }
 {
     let flags = selection(alloc, shown)?;
     let rows = cut(alloc, flags.as_slice(), rows)?;

@@ -13,10 +13,9 @@
 
 mod answers;
 mod cut;
-mod laws;
+pub mod laws;
 mod rows;
 mod stack;
 
 pub use answers::evaluate;
-pub use laws::solutions_suffice;
 pub use rows::Rows;

@@ -20,7 +20,9 @@ use text_base::{OutOfMemory, Text};
 
 /// Takes the two lists on top, the lower one first; where there are not two, the stack is empty then.
 fn top_two(stack: &mut VecDeque<Rows>) -> Option<(Rows, Rows)>
-    ensures { MatchOption result ((stack.new.items ≡ []) × ((f : List Places → List Places → List Places) → both f stack.old.items ≡ [])) (λ p. stack.old.items ≡ p.1 ∷ p.0 ∷ stack.new.items) }
+    ensures { MatchOption result
+        ((stack.new.items ≡ []) × ((f : List Places → List Places → List Places) → both f stack.old.items ≡ []))
+        (λ p. stack.old.items ≡ p.1 ∷ p.0 ∷ stack.new.items) }
 {
     let right = stack.pop_front()?;
     let left = stack.pop_front()?;
