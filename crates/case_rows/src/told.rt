@@ -17,7 +17,8 @@ struct Wanted {
 
 /// Whether an answer is one that is wanted.
 fn is_wanted(wanted: &Wanted, got: &str) -> bool
-    ensures { IsTrue result ↔ IsWanted (string_bytes wanted.now.first) (option_map string_bytes wanted.now.other) got.now }
+    ensures { IsTrue result ↔
+        IsWanted (string_bytes wanted.now.first) (option_map string_bytes wanted.now.other) got.now }
 {
     if wanted.first.as_str() == got {
         return true;
@@ -30,7 +31,8 @@ fn is_wanted(wanted: &Wanted, got: &str) -> bool
 
 /// What is told of an answer: nothing, where it is wanted.
 fn judged(alloc: Global, wanted: &Wanted, got: &str) -> Result<Option<String>, AllocError>
-    ensures { IfOk result (λ told. told ≡ None ↔ IsWanted (string_bytes wanted.now.first) (option_map string_bytes wanted.now.other) got.now) }
+    ensures { IfOk result (λ told. told ≡ None ↔
+        IsWanted (string_bytes wanted.now.first) (option_map string_bytes wanted.now.other) got.now) }
 {
     if is_wanted(wanted, got) {
         return Ok(None);
