@@ -7,13 +7,15 @@ use Rattle.std.specs.Str.Parse.{digits_value}
 use Rattle.std.proofs.lemmas.List.{take_all}
 use Rattle.std.proofs.lemmas.Slice.Eq.{bytes_eq-Decides}
 use Rattle.std.proofs.lemmas.Bool.Decides.{nat_tests}
+use Rattle.list_laws.proofs.Lists.{some_digits}
 use Rattle.tpf_base.specs.Addresses.{Address, IsAddress, is_host_byte, is_host}
 use Rattle.template_fill.specs.WebAddress.{IsNoAddress}
 use Rattle.template_fill.specs.ReadAddress.{Spelled, IsSpelled, Spells, SpellsPort, ◌>>=◌, when, after_scheme, is_port_text, is_rest, normal, opened, port_after, port_part, read_address, read_spelled}
+use Rattle.command_words.specs.declared.values.TheConstants.{LONGEST_TYPED}
 use Rattle.command_words.specs.Commands.{url_of}
 use Rattle.template_fill.proofs.Passing.{list_all-front}
 use Rattle.template_fill.proofs.Ports.{above_first, positive, spells_digits, spells_no_port, spells_port}
-use Rattle.template_fill.proofs.Reading.{bind-inv, reads_address, spells_is_address, when-inv}
+use Rattle.template_fill.proofs.Reading.{bind-inv, spells_is_address, when-inv}
 
 cut : (n : ℕ) (xs : List ℕ) → take n xs ++ drop (length (take n xs)) xs ≡ xs
 cut zero xs = refl
@@ -35,9 +37,6 @@ unfolding after_scheme
 after_text text after h =
     let w = when-inv (starts_with nat_eq text (codes "http://")) (drop 7 text) after h in
     begins_with text (codes "http://") w.0 ∙ ap (λ (rest : List ℕ). codes "http://" ++ rest) w.1
-
-some_digits : (digits : List ℕ) → 0 < length digits → false ≡ (length digits == 0)
-some_digits digits some = grind (arith, nat_tests)
 
 digits_spell : (text digits : List ℕ) → digits ≡ take (length digits) text → list_all is_ascii_digit digits ≡ true → is_port_text digits ≡ true → (bytes : List ℕ) → opened 58 bytes ≡ Some text → SpellsPort bytes (digits_value 10 digits) (drop (length digits) text)
 digits_spell text digits front all port bytes h =
@@ -85,9 +84,6 @@ not_read text none = go (read_spelled text) refl
     go None e = refl
     go (Some s) e = absurd (none (normal s) (is_read text s e))
 
-pub address_read : (text : List ℕ) (a : Address) → IsAddress text a → read_address text ≡ Some a
-address_read text a r = reads_address text a r
-
--- an address has at most 2048 bytes
-pub short_url : (text : List ℕ) → length text ≤ 2048 → url_of text ≡ read_address text
-short_url text short = let test : nat_le (length text) 2048 ≡ true = grind (arith, nat_tests) in rw test refl
+-- an address has at most LONGEST_TYPED bytes
+pub short_url : (text : List ℕ) → length text ≤ LONGEST_TYPED → url_of text ≡ read_address text
+short_url text short = let test : nat_le (length text) LONGEST_TYPED ≡ true = grind (arith, nat_tests) in rw test refl

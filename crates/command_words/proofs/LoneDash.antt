@@ -5,14 +5,11 @@ use Rattle.std.specs.String.{string_bytes}
 use Rattle.std.specs.Str.{bytes_eq}
 use Rattle.std.specs.declared.string.String.{String}
 use Rattle.std.proofs.lemmas.Str.{IsUtf8-string_bytes}
+use Rattle.list_laws.proofs.Tests.{and_second}
 use Rattle.command_words.specs.Words.{Form, Text, Kind, ends, option, refused, plain, arguments, begins_with_dash, given_by, is_among, kind_met, kind_of, values_of, with_value}
 use Rattle.command_words.specs.Apps.{asks, has_lone_dash}
 use Rattle.command_words.proofs.Whole.{AreTexts, no_dash_plain}
 use Rattle.command_words.proofs.WordKinds.{Seen, seen}
-
-and_second : (p q : Bool) → (p && q) ≡ true → q ≡ true
-and_second true q e = e
-and_second false q e = absurd (cc)
 
 or_second : (p q : Bool) → p ≡ false → (p || q) ≡ true → q ≡ true
 or_second true q f e = absurd (cc)

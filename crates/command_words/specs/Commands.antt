@@ -12,6 +12,7 @@ use Rattle.triple_table.specs.declared.choice.Choice.{Choice}
 use Rattle.triple_table.specs.declared.choice.Choice.TheVariants.{DefaultGraph, Named, Union}
 use Rattle.command_words.specs.Words.{Form, Text, Values, arguments}
 use Rattle.command_words.specs.declared.command.ClientWords.{ClientWords}
+use Rattle.command_words.specs.declared.values.TheConstants.{LONGEST_TYPED}
 
 -- what is asked of several servers: the query, of each server the address of a page, and the client's options
 pub record Federated : Type 0 where
@@ -102,9 +103,9 @@ abbrev pub count_of : ℕ → ℕ → Option Text → Option (Option ℕ)
 count_of low high None = Some None
 count_of low high (Some text) = option_map (λ n. Some n) (number_of low high text)
 
--- an address as it is typed has at most 2048 bytes
+-- an address as it is typed has at most LONGEST_TYPED bytes
 abbrev pub url_of : Text → Option Address
-url_of text = when (nat_le (length text) 2048) text >>= read_address
+url_of text = when (nat_le (length text) LONGEST_TYPED) text >>= read_address
 
 -- the address that a text is, and those behind it; none stands behind a text that is not given
 abbrev pub url_and : Option Text → Option (List Address) → Option (List Address)

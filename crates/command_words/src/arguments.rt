@@ -84,9 +84,11 @@ fn command_with<'a>(
 /// The arguments that a command reads in words.
 fn matches_by<'a>(command: Command<'a>, words: &'a [String]) -> Result<ArgMatches<'a>, WordsFault>
     requires { is_simple_and_free (app_of command) ≡ true }
-    ensures rows { IfOk result (λ m. rows_of (found_of m) ≡ matches_of (app_of command.entry) (map string_bytes words.entry.now)) }
+    ensures rows { IfOk result (λ m. rows_of (found_of m) ≡
+        matches_of (app_of command.entry) (map string_bytes words.entry.now)) }
     ensures taken { IfOk result (λ m. fault_of (app_of command.entry) (map string_bytes words.entry.now) ≡ []) }
-    ensures refused { result ≡ Err WordsFault.Usage → fault_of (app_of command.entry) (map string_bytes words.entry.now) ≢ [] }
+    ensures refused { result ≡ Err WordsFault.Usage
+        → fault_of (app_of command.entry) (map string_bytes words.entry.now) ≢ [] }
 {
     match command.try_get_matches_from(words) {
         Ok(matches) => Ok(matches),
@@ -149,7 +151,8 @@ pub fn arguments_of<'a>(
 ) -> Result<Option<ArgMatches<'a>>, OutOfMemory>
     requires few { HasFew (texts positionals.now) }
     requires free { is_simple_and_free (app_of_form (form_of positionals.now options.now flags.now)) ≡ true }
-    ensures { IfOk result (λ o. option_map found_in o ≡ arguments (form_of positionals.now options.now flags.now) (map string_bytes words.entry.now)) }
+    ensures { IfOk result (λ o. option_map found_in o ≡
+        arguments (form_of positionals.now options.now flags.now) (map string_bytes words.entry.now)) }
 {
     if has_lone_dash(options, words) {
         return Ok(None);

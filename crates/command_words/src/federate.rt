@@ -92,7 +92,8 @@ fn federate_with<'a>(
     urls: Option<Vec<WebAddress>>,
     client: Option<ClientWords>,
 ) -> Option<FederateWords<'a>>
-    ensures { option_map federated_view result ≡ federate_with (found_in matches.now) (option_map (λ u. u.items) urls) client }
+    ensures { option_map federated_view result ≡
+        federate_with (found_in matches.now) (option_map (λ u. u.items) urls) client }
 {
     let urls = urls?;
     let query = value_of(matches, "QUERYFILE")?;

@@ -334,7 +334,8 @@ fn command_named<'a>(
     name: Name,
     words: &'a [String],
 ) -> Result<Option<Command<'a>>, OutOfMemory>
-    ensures { IfOk result (λ o. option_map command_view o ≡ words_of (form_by name) (from_by name) (map string_bytes words.entry.now)) }
+    ensures { IfOk result (λ o. option_map command_view o ≡
+        words_of (form_by name) (from_by name) (map string_bytes words.entry.now)) }
 {
     match arguments_by(alloc, name, words)? {
         Some(matches) => command_from(alloc, name, &matches),

@@ -22,3 +22,4 @@ mod values;
 
 pub use command::{ClientWords, Command, FederateWords};
 pub use from::command_of;
+pub use values::LONGEST_TYPED;

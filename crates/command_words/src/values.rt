@@ -10,6 +10,9 @@ use template_fill::{AddressFault, WebAddress, is_written_path};
 use tpf_base::{OutOfMemory, Text};
 use triple_table::Choice;
 
+/// The most bytes of an address as it is typed.
+pub const LONGEST_TYPED: usize = 2048;
+
 fn are_digits(text: &[u8]) -> bool
     ensures { result ≡ list_all is_digit text.now }
 {
@@ -26,7 +29,8 @@ fn is_number(text: &[u8]) -> bool
 #[tactic(auto, using(crate::proofs::Numbers::number_after_least))]
 fn value_up_to(digits: &[u8], high: u64) -> Option<u64>
     requires { high ≤ 10 ^ 19 }
-    ensures { MatchOption result (high < number_after 0 digits.now) (λ n. (n ≡ number_after 0 digits.now) × (n ≤ high)) }
+    ensures { MatchOption result (high < number_after 0 digits.now)
+        (λ n. (n ≡ number_after 0 digits.now) × (n ≤ high)) }
 {
     let most = u128::from(high);
     let mut n: u128 = 0;
@@ -81,11 +85,11 @@ pub fn count_of(text: Option<&str>, low: u64, high: u64) -> Option<Option<u64>>
     }
 }
 
-/// The address that a text of at most 2048 bytes is.
+/// The address that a text of at most `LONGEST_TYPED` bytes is.
 pub fn url_of(alloc: Global, text: &str) -> Result<Option<WebAddress>, OutOfMemory>
     ensures { IfOk result (λ o. o ≡ url_of text.now) }
 {
-    if text.len() > 2048 {
+    if text.len() > LONGEST_TYPED {
         return Ok(None);
     }
     match WebAddress::read(alloc, text) {
@@ -109,7 +113,7 @@ fn without_query(address: Option<WebAddress>) -> Option<WebAddress>
     }
 }
 
-/// The address without a query that a text of at most 2048 bytes is.
+/// The address without a query that a text of at most `LONGEST_TYPED` bytes is.
 pub fn base_of(alloc: Global, text: &str) -> Result<Option<WebAddress>, OutOfMemory>
     ensures value { IfOk result (λ o. o ≡ base_of text.now) }
     ensures plain { IfOk result (λ o. IfSome o (λ a. a.query ≡ None)) }
