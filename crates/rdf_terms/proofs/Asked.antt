@@ -1,7 +1,7 @@
 -- Slots that a server is asked for, and the others.
 use Rattle.std.proofs.Common.{◌≡◌, Bool, true, false, ◌&&◌, List, [], ◌∷◌, if◌then◌else◌, refl, sym, ◌∙◌, ap}
 use Rattle.std.specs.List.{AllByRecursion, filter}
-use Rattle.list_laws.proofs.Tests.{and_first, and_second}
+use Rattle.list_laws.proofs.Tests.{all_three, and_first, and_second}
 use Rattle.rdf_terms.specs.declared.term.Term.{Term}
 use Rattle.rdf_terms.specs.declared.term.Term.TheVariants.{Iri, Blank, Literal}
 use Rattle.rdf_terms.specs.declared.term.Triple.{Triple}
@@ -18,12 +18,12 @@ use Rattle.rdf_terms.specs.Askable.{is_iri_term, is_iri_or_literal, slot_allows,
 
 -- ---- kept slots
 
-iri_not_blank : (term : Term) → is_iri_term term ≡ true → IsNotBlank term
+pub iri_not_blank : (term : Term) → is_iri_term term ≡ true → IsNotBlank term
 iri_not_blank (Iri text) is = tt
 iri_not_blank (Blank label) is = absurd (cc)
 iri_not_blank (Literal form kind) is = tt
 
-object_not_blank : (term : Term) → is_iri_or_literal term ≡ true → IsNotBlank term
+pub object_not_blank : (term : Term) → is_iri_or_literal term ≡ true → IsNotBlank term
 object_not_blank (Iri text) is = tt
 object_not_blank (Blank label) is = absurd (cc)
 object_not_blank (Literal form kind) is = tt
@@ -65,9 +65,6 @@ object_allows (Blank a) (Blank b) same class = absurd class
 slot_matched : (IsClass : Term → Type 0) (test : Term → Bool) → Allows IsClass test → (slot : Slot) (term : Term) → matches_slot slot term ≡ true → IsClass term → slot_allows test slot ≡ true
 slot_matched IsClass test rule Any term same class = refl
 slot_matched IsClass test rule (Fixed fixed) term same class = rule fixed term same class
-
-all_three : (a b c : Bool) → a ≡ true → b ≡ true → c ≡ true → a && (b && c) ≡ true
-all_three a b c p q r = rw (p, q, r) refl
 
 matched : (slots : Slots) (t : Triple) → matches slots t ≡ true → IsGroundTriple t → askable slots ≡ true
 matched slots t same ground =

@@ -4,7 +4,6 @@ use Rattle.std.specs.Bool.{Decides}
 use Rattle.std.specs.List.{AllByRecursion, Contains, filter}
 use Rattle.std.specs.List.Sorted.{IsStrictlySortedBy}
 use Rattle.std.specs.Cmp.{IsTotalOrder}
-use Rattle.std.proofs.lemmas.Bool.{false≢true}
 use Rattle.std.proofs.lemmas.Cmp.{on_total, then_total}
 use Rattle.std.specs.declared.cmp.Ordering.{Ordering}
 use Rattle.std.specs.declared.cmp.Ordering.TheVariants.{Less, Equal, Greater}
@@ -17,7 +16,7 @@ use Rattle.rdf_terms.specs.declared.term.Triple.{Triple}
 use Rattle.rdf_terms.specs.declared.slots.Slot.{Slot}
 use Rattle.rdf_terms.specs.declared.slots.Slot.TheVariants.{Any, Fixed}
 use Rattle.rdf_terms.specs.declared.slots.Slots.{Slots}
-use Rattle.rdf_terms.specs.EqualityLaws.{term_decides, same_triple}
+use Rattle.rdf_terms.specs.EqualityLaws.{both, term_decides, same_triple}
 use Rattle.rdf_terms.specs.Order.{term_order}
 use Rattle.rdf_terms.specs.OrderLaws.{term_total, term_equal, triple_total, triple_equal}
 use Rattle.rdf_terms.specs.Slots.{MatchesSlot, Matches, matches_slot, matches, pos_order, osp_order, is_fixed, order_by, order_of}
@@ -128,11 +127,6 @@ module _ (R : Triple → Triple → Ordering) (o : IsTotalOrder R) (tells : (a b
 slot_decides : (s : Slot) (t : Term) → Decides (matches_slot s t) (MatchesSlot s t)
 slot_decides Any t = ((λ h. tt), (λ h. refl))
 slot_decides (Fixed f) t = term_decides f t
-
-both : (s t : Bool) {P Q : Type 0} → Decides s P → Decides t Q → Decides (s && t) (P × Q)
-both true true d e = ((λ h. (d.0 refl, e.0 refl)), (λ h. refl))
-both true false d e = ((λ h. absurd (false≢true h)), (λ h. e.1 h.1))
-both false t d e = ((λ h. absurd (false≢true h)), (λ h. d.1 h.0))
 
 pub matches_decides : (slots : Slots) (t : Triple) → Decides (matches slots t) (Matches slots t)
 matches_decides slots t =

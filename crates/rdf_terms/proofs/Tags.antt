@@ -2,6 +2,8 @@
 use Rattle.std.proofs.Common.{ℕ, ◌≡◌, ◌==◌, Bool, true, false, not, ◌&&◌, if◌then◌else◌, List, [], ◌∷◌, refl, ap, sym, ◌∙◌, arith}
 use Rattle.std.specs.List.{list_all}
 use Rattle.std.specs.Char.{to_ascii_lowercase}
+use Rattle.std.proofs.lemmas.Bool.{and_parts, not-true}
+use Rattle.list_laws.proofs.Tests.{assoc}
 use Rattle.rdf_terms.specs.Tag.{is_letter_or_digit, put_first, groups, is_group, may_stand, is_tag, runs_tag, is_upper, lower, is_lower_tag}
 
 -- what `runs_tag` says of the groups that are left, of which the first is begun
@@ -9,16 +11,12 @@ abbrev goes_on : Bool → Bool → List ℕ × List (List ℕ) → Bool
 goes_on in_first true p = list_all (may_stand in_first) p.0 && list_all (is_group is_letter_or_digit) p.1
 goes_on in_first false p = is_group (may_stand in_first) p.0 && list_all (is_group is_letter_or_digit) p.1
 
-and_assoc : (s t u : Bool) → (s && (t && u)) ≡ ((s && t) && u)
-and_assoc true t u = refl
-and_assoc false t u = refl
-
 step : (hyphen in_first has_byte : Bool) (b : ℕ) (p : List ℕ × List (List ℕ)) →
     (if hyphen then has_byte && goes_on false false p else (may_stand in_first b && goes_on in_first true p)) ≡ goes_on in_first has_byte (put_first hyphen b p)
 step true f true b p = refl
 step true f false b p = refl
-step false f true b p = and_assoc (may_stand f b) (list_all (may_stand f) p.0) (list_all (is_group is_letter_or_digit) p.1)
-step false f false b p = and_assoc (may_stand f b) (list_all (may_stand f) p.0) (list_all (is_group is_letter_or_digit) p.1)
+step false f true b p = assoc (may_stand f b) (list_all (may_stand f) p.0) (list_all (is_group is_letter_or_digit) p.1)
+step false f false b p = assoc (may_stand f b) (list_all (may_stand f) p.0) (list_all (is_group is_letter_or_digit) p.1)
 
 runs_is : (in_first has_byte : Bool) (bs : List ℕ) → runs_tag in_first has_byte bs ≡ goes_on in_first has_byte (groups bs)
 runs_is f true [] = refl
@@ -61,3 +59,13 @@ unfolding is_lower_tag
 lower_is_kept bs =
     and_true (is_tag (lower bs)) (list_all (λ b. not (is_upper b)) (lower bs)) (none_upper bs)
     ∙ sym (runs_is_tag (lower bs)) ∙ runs_lower true false bs ∙ runs_is_tag bs
+
+lower_same : (b : ℕ) → is_upper b ≡ false → to_ascii_lowercase b ≡ b
+lower_same b h = grind (arith, h)
+
+-- what has no letter in upper case stays
+pub lower_all : (tag : List ℕ) → list_all (λ b. not (is_upper b)) tag ≡ true → lower tag ≡ tag
+lower_all [] h = refl
+lower_all (b ∷ tag) h =
+    let p = and_parts (not (is_upper b)) (list_all (λ b. not (is_upper b)) tag) h in
+    rw (lower_same b (not-true (is_upper b) p.0), lower_all tag p.1) refl

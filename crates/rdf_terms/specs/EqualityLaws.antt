@@ -11,7 +11,7 @@ use Rattle.rdf_terms.specs.declared.term.Term.TheVariants.{Iri, Blank, Literal}
 use Rattle.rdf_terms.specs.declared.term.Triple.{Triple}
 use Rattle.rdf_terms.specs.Same.{kind_eq, term_eq, triple_eq}
 
-both : (s t : Bool) {P Q : Type 0} → Decides s P → Decides t Q → Decides (s && t) (P × Q)
+pub both : (s t : Bool) {P Q : Type 0} → Decides s P → Decides t Q → Decides (s && t) (P × Q)
 both true true d e = ((λ h. (d.0 refl, e.0 refl)), (λ h. refl))
 both true false d e = ((λ h. cc), (λ h. e.1 h.1))
 both false t d e = ((λ h. cc), (λ h. d.1 h.0))

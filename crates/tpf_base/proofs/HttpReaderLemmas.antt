@@ -8,6 +8,7 @@ use Rattle.std.specs.Str.{is_utf8}
 use Rattle.std.proofs.lemmas.Str.{IsUtf8-from_is_utf8, is_utf8-from_IsUtf8}
 use Rattle.std.proofs.lemmas.List.{take-append-drop}
 use Rattle.std.proofs.lemmas.Slice.Eq.{bytes_eq-Decides}
+use Rattle.list_laws.proofs.Tests.{equals_itself}
 use Rattle.httparse.proofs.GrammarLemmas.{request_pieces, request_from_pieces}
 use Rattle.httparse.proofs.PieceLemmas.{Stops_value, Stops_token, print_field-append}
 use Rattle.httparse.specs.Grammar.{LineEnd, crlf, lf, print_end, AllPass, is_value_byte, is_token_byte, Field, IsField, print_field, print_section, ReadsSection, is_uri_byte, RequestHead, ReadsRequest, print_blank}
@@ -88,14 +89,11 @@ unfolding split_run
 run_parts test [] = (refl, tt)
 run_parts test (b ∷ bs) = run_step test b bs (split_run test bs) (run_parts test bs).0 (run_parts test bs).1 (test b) refl
 
-same_byte : (n : ℕ) → (n == n) ≡ true
-same_byte n = grind (arith, common_steps)
-
 word_complete : (test : ℕ → Bool) (stop : ℕ) → test stop ≡ false → (w text rest : List ℕ) → Word test stop w text rest → read_word test stop text ≡ Some (w, rest)
 word_complete test stop ends [] text rest x = absurd (omega arith)
 word_complete test stop ends (b ∷ bs) text rest x =
     ap (read_word test stop) x.2 ∙ ap (word_of stop) (run_stops test (b ∷ bs) (stop ∷ rest) (to_r test (b ∷ bs) x.1) ends)
-    ∙ (rw (same_byte stop) refl)
+    ∙ (rw (equals_itself stop) refl)
 
 word_sound_at : (stop : ℕ) (run : List ℕ × List ℕ) (w rest : List ℕ) → word_of stop run ≡ Some (w, rest) → (0 < length w) × (run.0 ≡ w) × (run.1 ≡ stop ∷ rest)
 word_sound_at stop ([], left) w rest h = absurd cc

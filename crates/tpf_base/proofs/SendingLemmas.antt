@@ -1,9 +1,10 @@
 -- Calls on a link, one after another.
-use Rattle.std.proofs.Common.{ℕ, ◌≡◌, ◌≢◌, ◌+◌, ◌<◌, ◌≤◌, ◌++◌, List, length, take, drop, Option, Some, None, Bool, true, false, refl, sym, ◌∙◌, ap, arith, append_assoc, length-drop, if◌then◌else◌, ◌-◌, ◌⊎◌, inl, inr}
+use Rattle.std.proofs.Common.{ℕ, ◌≡◌, ◌≢◌, ◌+◌, ◌<◌, ◌≤◌, ◌++◌, List, length, take, drop, Option, Some, None, Bool, true, false, refl, sym, ◌∙◌, ap, arith, append_assoc, length-drop, if◌then◌else◌, ◌-◌, inl, inr}
 use Rattle.std.proofs.lemmas.Grind.{common_steps}
 use Rattle.std.proofs.lemmas.List.{take-append-drop, length-take-le}
 use Rattle.std.proofs.Math.Seq.{take-append-add}
 use Rattle.std.specs.Io.KnownBytes.{append_known}
+use Rattle.list_laws.proofs.Tests.{moved_or}
 use Rattle.tpf_base.specs.Causes.{Rose}
 use Rattle.tpf_base.specs.declared.wire.Moved.{Moved}
 use Rattle.tpf_base.specs.declared.wire.Moved.TheVariants as answers
@@ -84,6 +85,9 @@ holds_append (Some xs) now x y e h = λ bytes b. let f = h xs refl in cc
 pub holds_same : {T : Type 0} (told now : Option T) (x : T) → now ≡ told → Holds told x → Holds now x
 holds_same told now x e h = λ bytes b. h bytes (sym e ∙ b)
 
+pub holds_by : {T : Type 0} (told : Option T) (x y : T) → x ≡ y → Holds told x → Holds told y
+holds_by told x y e h = λ fact b. h fact b ∙ e
+
 -- a part of a list, and then what follows it
 take_on : (xs : List ℕ) (m n : ℕ) → m ≤ length xs → take m xs ++ take n (drop m xs) ≡ take (m + n) xs
 take_on xs m n h =
@@ -149,9 +153,6 @@ rest_is xs n = grind (arith, common_steps)
 
 pub stopped_idle : (k : ℕ) (piece : List ℕ) (b c : WireState) → Sends k piece b c answers.NotYet → ((c.links k).sent ≡ (b.links k).sent) × (c.idle ≡ b.idle)
 stopped_idle k piece b c s = ((s.not_yet refl).0, (s.not_yet refl).3)
-
-moved_or : (to from : ℕ) → from ≤ to → (from < to) ⊎ (to ≡ from)
-moved_or to from h = grind arith
 
 -- where a wait woke the link, its first send moved a byte
 pub woken_moved : (k : ℕ) (request piece : List ℕ) (from to : ℕ) (a b c : WireState) → SendsFrom k request from to a b
