@@ -29,7 +29,8 @@ pub struct MemShelf {
 
 /// The first file with a name.
 fn place_of(files: &[(Text, Bytes)], name: &str) -> Option<usize>
-    ensures found { IfSome result (λ i. (file : List ℕ × List ℕ) × (slice_get files.now i ≡ Some file) × (content_of files.now name.now ≡ Some file.1)) }
+    ensures found { IfSome result (λ i. (file : List ℕ × List ℕ) × (slice_get files.now i ≡ Some file)
+        × (content_of files.now name.now ≡ Some file.1)) }
     ensures missing { IfNone result (content_of files.now name.now ≡ None) }
 {
     for (i, file) in files.iter().enumerate() {
@@ -101,9 +102,11 @@ impl Shelf for MemShelf {
     #[tactic(auto, using(crate::proofs::Rooms::spared_next))]
     fn find(&mut self, name: &str) -> Result<u32, Fault>
         ensures finds { FindsFile name.now (shelf_state self.old) (shelf_state self.new) result }
-        ensures failed { IsErrOf result Fault.Failed → IsTrue (is_next_due (shelf_counts self.old) (shelf_moved self.old))
+        ensures failed { IsErrOf result Fault.Failed
+            → IsTrue (is_next_due (shelf_counts self.old) (shelf_moved self.old))
             ⊎ (content_of (shelf_files self.old) name.now ≡ None) ⊎ (2 ^ 32 ≤ shelf_given self.old) }
-        ensures due { IsTrue (is_next_due (shelf_counts self.old) (shelf_moved self.old)) → IsErrOf result Fault.Failed }
+        ensures due { IsTrue (is_next_due (shelf_counts self.old) (shelf_moved self.old))
+            → IsErrOf result Fault.Failed }
         ensures missing { content_of (shelf_files self.old) name.now ≡ None → IsErrOf result Fault.Failed }
         ensures counts { CountsCall (shelf_counts self.old) (shelf_counts self.new) result }
         ensures moved { shelf_moved self.new ≡ shelf_moved self.old }
@@ -134,9 +137,11 @@ impl Shelf for MemShelf {
         requires given { file < shelf_given self.old }
         requires room { 0 < length to.old }
         ensures reads { ReadsFile file to.new (shelf_state self.old) (shelf_state self.new) result }
-        ensures failed { IsErrOf result Fault.Failed ↔ IsTrue (is_next_due (shelf_counts self.old) (shelf_moved self.old)) }
+        ensures failed { IsErrOf result Fault.Failed
+            ↔ IsTrue (is_next_due (shelf_counts self.old) (shelf_moved self.old)) }
         ensures memory { result ≢ Err Fault.OutOfMemory }
-        ensures amount { IfOk result (λ n. (rest : List ℕ) → shelf_rest self.old file ≡ Some rest → n ≡ room (shelf_counts self.old).failing (shelf_moved self.old) (min (length to.old) (length rest))) }
+        ensures amount { IfOk result (λ n. (rest : List ℕ) → shelf_rest self.old file ≡ Some rest
+            → n ≡ room (shelf_counts self.old).failing (shelf_moved self.old) (min (length to.old) (length rest))) }
         ensures counts { CountsCall (shelf_counts self.old) (shelf_counts self.new) result }
         ensures moved { IfOk result (λ n. shelf_moved self.new ≡ min (shelf_moved self.old + n) (2 ^ 64 - 1)) }
         ensures still { OnErr result (shelf_moved self.new ≡ shelf_moved self.old) }

@@ -45,8 +45,10 @@ impl Sink for MemSink {
     fn write(&mut self, piece: &[u8]) -> Result<usize, Fault>
         requires { 0 < length piece.now }
         ensures writes { WritesPiece piece.now (sink_state self.old) (sink_state self.new) result }
-        ensures failed { IsErrOf result Fault.Failed ↔ IsTrue (is_next_due (sink_counts self.old) (length (sink_bytes self.old))) }
-        ensures amount { IfOk result (λ n. n ≡ room (sink_counts self.old).failing (length (sink_bytes self.old)) (length piece.now)) }
+        ensures failed { IsErrOf result Fault.Failed
+            ↔ IsTrue (is_next_due (sink_counts self.old) (length (sink_bytes self.old))) }
+        ensures amount { IfOk result (λ n.
+            n ≡ room (sink_counts self.old).failing (length (sink_bytes self.old)) (length piece.now)) }
         ensures counts { CountsCall (sink_counts self.old) (sink_counts self.new) result }
     {
         let moved = self.taken.len() as u64;

@@ -132,7 +132,8 @@ impl Wire for NoWire {
 impl Dial for NoWire {
     fn dial(&mut self, _host: &str, _port: u16) -> Result<u64, Fault>
         ensures failed { result ≡ Err Fault.Failed }
-        ensures counts { self.new ≡ record self.old { faults = counted self.old.faults; dials = counted self.old.dials } }
+        ensures counts { self.new
+            ≡ record self.old { faults = counted self.old.faults; dials = counted self.old.dials } }
         ensures only { OnlyDials (unlinked self.old) (unlinked self.new) }
         ensures cause { HasCause self.old.faults self.new.faults result }
     {

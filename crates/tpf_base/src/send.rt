@@ -24,7 +24,8 @@ pub enum Halt {
 pub fn send_rest<W: Wire>(wire: &mut W, link: u64, bytes: &[u8], sent: &mut usize) -> Halt
     requires is_open { ((W.state wire.old).links link).is_open ≡ true }
     requires within { sent.old ≤ length bytes.now }
-    ensures sends { result ≢ Halt.Failed → SendsFrom link bytes.now sent.old sent.new (W.state wire.old) (W.state wire.new) }
+    ensures sends { result ≢ Halt.Failed
+        → SendsFrom link bytes.now sent.old sent.new (W.state wire.old) (W.state wire.new) }
     ensures still { result ≡ Halt.Done → sent.new ≡ sent.old → W.state wire.new ≡ W.state wire.old }
     ensures within { sent.new ≤ length bytes.now }
     ensures front { FrontSent link bytes.now sent.old (W.state wire.old) (W.state wire.new) }

@@ -89,7 +89,8 @@ fn read_rest<F: Shelf>(
 ) -> Result<Vec<u8>, FileFault>
     requires given { file < (F.state shelf.old).given }
     requires room { 0 < length piece.old }
-    ensures whole { IfOk result (λ bytes. (rest : List ℕ) → (F.state shelf.old).rest file ≡ Some rest → rest ≡ bytes.items) }
+    ensures whole { IfOk result (λ bytes. (rest : List ℕ) → (F.state shelf.old).rest file ≡ Some rest
+        → rest ≡ bytes.items) }
     ensures within { IfOk result (λ bytes. length bytes.items ≤ most) }
     ensures too_long { IsErrOf result FileFault.TooLong
         → (rest : List ℕ) → (F.state shelf.old).rest file ≡ Some rest → most < length rest }

@@ -83,7 +83,8 @@ pub trait Wire {
         ensures only { OnlyWaits (state self.old) (state self.new) }
         ensures cause { HasCause (state self.old).faults (state self.new).faults result }
         ensures door { HasCause (state self.old).door.faults (state self.new).door.faults result }
-        ensures steady { (state self.old).nature.steady ≡ true → WaitsSteadily (state self.old) (state self.new) result }
+        ensures steady { (state self.old).nature.steady ≡ true
+            → WaitsSteadily (state self.old) (state self.new) result }
         ensures allowed { SameAllowed (allows self.old) (allows self.new) };
 
     /// Takes what is known of readiness without waiting, so that a link or the door that became ready
@@ -120,11 +121,13 @@ pub trait Dial: Wire {
     /// `Failed` where the host is not there, or no number is left. Each call counts, and after an
     /// error no link was given.
     fn dial(&mut self, host: &str, port: u16) -> Result<u64, Fault>
-        ensures ok { IfOk result (λ number. GivesDialled host.now port number (Self.state self.old) (Self.state self.new)) }
+        ensures ok { IfOk result (λ number.
+            GivesDialled host.now port number (Self.state self.old) (Self.state self.new)) }
         ensures err { OnErr result (GivesNone (Self.state self.old) (Self.state self.new)) }
         ensures only { OnlyDials (Self.state self.old) (Self.state self.new) }
         ensures cause { HasCause (Self.state self.old).faults (Self.state self.new).faults result }
-        ensures steady { (Self.state self.old).nature.steady ≡ true → DialsSteadily (Self.state self.old) (Self.state self.new) result }
+        ensures steady { (Self.state self.old).nature.steady ≡ true
+            → DialsSteadily (Self.state self.old) (Self.state self.new) result }
         ensures allowed { SameAllowed (Self.allows self.old) (Self.allows self.new) };
 }
 
@@ -140,7 +143,8 @@ pub trait Accept: Wire {
         ensures only { OnlyListens (Self.state self.old) (Self.state self.new) }
         ensures cause { HasCause (Self.state self.old).faults (Self.state self.new).faults result }
         ensures door { HasCause (Self.state self.old).door.faults (Self.state self.new).door.faults result }
-        ensures steady { (Self.state self.old).nature.steady ≡ true → ServesSteadily (Self.state self.old) (Self.state self.new) result }
+        ensures steady { (Self.state self.old).nature.steady ≡ true
+            → ServesSteadily (Self.state self.old) (Self.state self.new) result }
         ensures allowed { SameAllowed (Self.allows self.old) (Self.allows self.new) };
 
     /// Accepts a connection that waits at the door and gives its number, or `None` where none waits.
@@ -149,13 +153,16 @@ pub trait Accept: Wire {
     /// an error no link was given.
     fn accept(&mut self) -> Result<Option<u64>, Fault>
         requires { listens (Self.state self.old) ≡ true }
-        ensures given { IfOk result (λ link. IfSome link (λ number. GivesAccepted number (Self.state self.old) (Self.state self.new))) }
+        ensures given { IfOk result (λ link. IfSome link (λ number.
+            GivesAccepted number (Self.state self.old) (Self.state self.new))) }
         ensures none { IfOk result (λ link. IfNone link (GivesNone (Self.state self.old) (Self.state self.new))) }
-        ensures stalled { IfOk result (λ link. IfNone link (Rose (Self.state self.old).door.stalls (Self.state self.new).door.stalls)) }
+        ensures stalled { IfOk result (λ link. IfNone link
+            (Rose (Self.state self.old).door.stalls (Self.state self.new).door.stalls)) }
         ensures err { OnErr result (GivesNone (Self.state self.old) (Self.state self.new)) }
         ensures only { OnlyAccepts (Self.state self.old) (Self.state self.new) }
         ensures cause { HasCause (Self.state self.old).faults (Self.state self.new).faults result }
         ensures door { HasCause (Self.state self.old).door.faults (Self.state self.new).door.faults result }
-        ensures steady { (Self.state self.old).nature.steady ≡ true → ServesSteadily (Self.state self.old) (Self.state self.new) result }
+        ensures steady { (Self.state self.old).nature.steady ≡ true
+            → ServesSteadily (Self.state self.old) (Self.state self.new) result }
         ensures allowed { SameAllowed (Self.allows self.old) (Self.allows self.new) };
 }
