@@ -8,14 +8,6 @@ use Rattle.http_wire.specs.Places.{room_at, with_bytes, with_run}
 use Rattle.http_wire.specs.Replies.{Runs}
 use Rattle.http_wire.proofs.RunLemmas.{runs_run}
 
--- a body with one more byte
-pub one_longer : (body : List ℕ) (b : ℕ) → length (body ++ b ∷ []) ≡ length body + 1
-one_longer body b = length-append body (b ∷ [])
-
-pub none_long : (body : List ℕ) → length body ≡ 0 → body ≡ []
-none_long [] e = refl
-none_long (b ∷ bs) e = absurd (omega (arith, e))
-
 -- ---- a run of bytes
 
 with_none : (g : Gathered) → with_bytes g [] ≡ g

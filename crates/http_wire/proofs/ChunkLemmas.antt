@@ -12,12 +12,13 @@ use Rattle.std.proofs.Common.{lit<}
 use Rattle.httparse.specs.Grammar.{skip_ows}
 use Rattle.tpf_base.specs.HttpReader.{split_run}
 use Rattle.tpf_base.specs.HttpReply.{chunk_size, size_of_run, is_line_rest}
-use Rattle.http_wire.proofs.FramingLemmas.{and_left, and_right}
+use Rattle.list_laws.proofs.Lists.{front_of}
+use Rattle.list_laws.proofs.Tests.{and_first, and_second}
 
 pub hex_digit : (digits : List ℕ) (i : ℕ) → list_all is_ascii_hexdigit digits ≡ true → i < length digits → is_ascii_hexdigit (get_or digits i 0) ≡ true
 hex_digit [] i all h = absurd (omega arith)
-hex_digit (d ∷ ds) zero all h = and_left _ _ all
-hex_digit (d ∷ ds) (suc i) all h = hex_digit ds i (and_right _ _ all) (omega arith)
+hex_digit (d ∷ ds) zero all h = and_first _ _ all
+hex_digit (d ∷ ds) (suc i) all h = hex_digit ds i (and_second _ _ all) (omega arith)
 
 pub hex_step : (digits : List ℕ) (i : ℕ) → i < length digits → digits_value 16 (take (i + 1) digits) ≡ digits_value 16 (take i digits) * 16 + digit_value (get_or digits i 0)
 hex_step digits i h = digits_value_more 16 digits i h
@@ -30,7 +31,7 @@ hex_below c h = grind (arith, common_steps)
 
 all_hex : (digits : List ℕ) → list_all is_ascii_hexdigit digits ≡ true → AllDigits 16 digits
 all_hex [] all = tt
-all_hex (d ∷ ds) all = (hex_below d (and_left _ _ all), all_hex ds (and_right _ _ all))
+all_hex (d ∷ ds) all = (hex_below d (and_first _ _ all), all_hex ds (and_second _ _ all))
 
 pub hex_fits : (digits : List ℕ) → list_all is_ascii_hexdigit digits ≡ true → length digits ≤ 15 → digits_value 16 digits < 2 ^ 60
 hex_fits digits all few =
@@ -76,9 +77,6 @@ run_all text digits is = ap (list_all is_ascii_hexdigit) is ∙ run_passes is_as
 run_count : (test : ℕ → Bool) (text : List ℕ) → length text ≡ length (split_run test text).0 + length (split_run test text).1
 run_count test text = ap (λ (x : List ℕ). length x) (run_whole test text) ∙ length-append (split_run test text).0 (split_run test text).1
 
-front_of : (xs ys : List ℕ) → take (length xs) (xs ++ ys) ≡ xs
-front_of xs ys = grind (arith, common_steps)
-
 -- the digits at the front of a line, where this is what follows them
 pub run_front : (test : ℕ → Bool) (text rest : List ℕ) → rest ≡ (split_run test text).1
     → (length rest ≤ length text) × (take (length text - length rest) text ≡ (split_run test text).0)
@@ -96,7 +94,7 @@ size_is line digits rest v front behind e =
     ap₂ (λ (d r : List ℕ). size_of_run (d, r)) (sym front) (sym behind) ∙ ap (λ (b : Bool). if b then Some (digits_value 16 digits) else None) e
 
 few_digits : (n : ℕ) (b : Bool) → (nat_lt 0 n && (nat_le n 15 && b)) ≡ true → n ≤ 15
-few_digits n b e = at_most n (and_left _ _ (and_right _ _ e))
+few_digits n b e = at_most n (and_first _ _ (and_second _ _ e))
   where
     at_most : (n : ℕ) → nat_le n 15 ≡ true → n ≤ 15
     at_most n h = grind (arith, common_steps)

@@ -1,15 +1,12 @@
 -- The heads at the front of bytes, and those of more bytes.
 use Rattle.std.proofs.Common.{◌≡◌, ℕ, suc, zero, ◌<◌, ◌≤◌, Bool, true, false, List, [], ◌∷◌, ◌++◌, length, drop, refl, sym, ap, ◌∙◌, if◌then◌else◌, arith, length-drop}
 use Rattle.std.proofs.lemmas.List.{drop-append-le}
-use Rattle.tpf_base.specs.HttpHeads.{Verdict, Accepted, NextRequest, Incomplete, Taken, Refused, next_request, blank_length, least_below, ends_empty}
+use Rattle.tpf_base.specs.HttpHeads.{Verdict, Accepted, NextRequest, Incomplete, Taken, Refused, next_request}
 use Rattle.tpf_base.specs.HttpConnection.{Heads, with_head, last_head, heads_from, after_taken, heads_up_to, heads_of, closes, unread_of, with_more, HeadsAreRead, AllHeadsAreRead, HeadsGoOn}
+use Rattle.tpf_base.proofs.Heads.{no_request}
 use Rattle.http_wire.proofs.StayLemmas.{taken_stays, taken_within, refused_stays}
 
 -- ---- as many heads as there are bytes are enough
-
-no_request : next_request [] ≡ Incomplete
-unfolding next_request blank_length least_below ends_empty
-no_request = refl
 
 no_heads : (most : ℕ) → heads_up_to most [] ≡ record { heads = []; unread = []; closed = false }
 unfolding heads_up_to
@@ -50,7 +47,7 @@ unfolding heads_up_to
 heads_read [] = sym (ap (λ (next : NextRequest). heads_from [] next (heads_of (after_taken [] next))) no_request)
 heads_read (b ∷ bytes) = step_from (b ∷ bytes) (length bytes) (omega arith) (next_request (b ∷ bytes)) refl
 
-heads_at : (bytes : List ℕ) (next : NextRequest) → next_request bytes ≡ next → heads_of bytes ≡ heads_from bytes next (heads_of (after_taken bytes next))
+pub heads_at : (bytes : List ℕ) (next : NextRequest) → next_request bytes ≡ next → heads_of bytes ≡ heads_from bytes next (heads_of (after_taken bytes next))
 heads_at bytes next is = heads_read bytes ∙ ap (λ (n : NextRequest). heads_from bytes n (heads_of (after_taken bytes n))) is
 
 -- ---- what is left

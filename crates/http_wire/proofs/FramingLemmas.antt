@@ -11,7 +11,6 @@ use Rattle.std.specs.List.{list_any}
 use Rattle.tpf_base.specs.HttpHeads.{values_of, says_close, pairs_of}
 use Rattle.http_wire.specs.declared.framing.Next.{Next}
 use Rattle.http_wire.specs.Places.{announced, final_of, judged_place, interim_place, start_place}
-use Rattle.std.proofs.lemmas.Slice.Eq.{bytes_eq-Decides}
 use Rattle.std.specs.Prelude.{bytes_eq, Some, None, if◌then◌else◌}
 use Rattle.std.specs.Char.{is_ascii_digit, digit_value}
 use Rattle.std.specs.List.{list_all}
@@ -19,33 +18,23 @@ use Rattle.std.specs.Str.Parse.{digits_value}
 use Rattle.std.proofs.lemmas.Int.Digits.{digits_value_more}
 use Rattle.std.proofs.lemmas.Str.Parse.{digits_value-take-le}
 use Rattle.std.proofs.Common.{get_or}
+use Rattle.list_laws.proofs.Bytes.{same_bytes}
+use Rattle.list_laws.proofs.Tests.{and_first, and_second, assoc}
 
-nquads_at : (values : List (List ℕ)) (value : List ℕ) (more : List (List ℕ)) → values ≡ value ∷ more
+pub nquads_one : (values : List (List ℕ)) (value : List ℕ) (more : List (List ℕ)) → values ≡ value ∷ more
     → is_nquads values ≡ ((length values == 1) && is_word (codes "application/n-quads") (before_first (λ b. b == 59) value))
 unfolding is_nquads
-nquads_at values value [] is = ap is_nquads is ∙ ap (λ (x : List (List ℕ)). (length x == 1) && is_word (codes "application/n-quads") (before_first (λ b. b == 59) value)) (sym is)
-nquads_at values value (other ∷ more) is =
+nquads_one values value [] is = ap is_nquads is ∙ ap (λ (x : List (List ℕ)). (length x == 1) && is_word (codes "application/n-quads") (before_first (λ b. b == 59) value)) (sym is)
+nquads_one values value (other ∷ more) is =
     ap is_nquads is ∙ sym (ap (λ (v : Bool). v && is_word (codes "application/n-quads") (before_first (λ b. b == 59) value)) (two_or_more (length more)))
     ∙ ap (λ (x : List (List ℕ)). (length x == 1) && is_word (codes "application/n-quads") (before_first (λ b. b == 59) value)) (sym is)
   where
     two_or_more : (n : ℕ) → (suc (suc n) == 1) ≡ false
     two_or_more n = grind (arith, common_steps)
 
-pub nquads_one : (values : List (List ℕ)) (value : List ℕ) (more : List (List ℕ)) → values ≡ value ∷ more
-    → is_nquads values ≡ ((length values == 1) && is_word (codes "application/n-quads") (before_first (λ b. b == 59) value))
-nquads_one values value more is = nquads_at values value more is
-
 pub nquads_other : (values : List (List ℕ)) → values ≡ [] → is_nquads values ≡ false
 unfolding is_nquads
 nquads_other values none = ap is_nquads none
-
-pub and_left : (a b : Bool) → (a && b) ≡ true → a ≡ true
-and_left true b h = refl
-and_left false b h = h
-
-pub and_right : (a b : Bool) → (a && b) ≡ true → b ≡ true
-and_right true b h = h
-and_right false b h = absurd cc
 
 -- ---- numbers
 
@@ -54,19 +43,19 @@ digit_is c h = grind (arith, common_steps)
 
 number_digit : (digits : List ℕ) (i : ℕ) → list_all is_ascii_digit digits ≡ true → i < length digits → is_ascii_digit (get_or digits i 0) ≡ true
 number_digit [] i all h = absurd (omega arith)
-number_digit (d ∷ ds) zero all h = and_left _ _ all
-number_digit (d ∷ ds) (suc i) all h = number_digit ds i (and_right _ _ all) (omega arith)
+number_digit (d ∷ ds) zero all h = and_first _ _ all
+number_digit (d ∷ ds) (suc i) all h = number_digit ds i (and_second _ _ all) (omega arith)
 
 pub number_step : (digits : List ℕ) (i : ℕ) → is_number digits ≡ true → i < length digits
     → digits_value 10 (take (i + 1) digits) ≡ digits_value 10 (take i digits) * 10 + (get_or digits i 0 - 48)
 number_step digits i number h =
-    digits_value_more 10 digits i h ∙ ap (λ (n : ℕ). digits_value 10 (take i digits) * 10 + n) (digit_is (get_or digits i 0) (number_digit digits i (and_right _ _ number) h))
+    digits_value_more 10 digits i h ∙ ap (λ (n : ℕ). digits_value 10 (take i digits) * 10 + n) (digit_is (get_or digits i 0) (number_digit digits i (and_second _ _ number) h))
 
 pub number_front : (digits : List ℕ) (i : ℕ) → digits_value 10 (take i digits) ≤ digits_value 10 digits
 number_front digits i = digits_value-take-le 10 digits i (omega arith)
 
 pub number_low : (digits : List ℕ) (i : ℕ) → is_number digits ≡ true → i < length digits → 48 ≤ get_or digits i 0
-number_low digits i number h = low (get_or digits i 0) (number_digit digits i (and_right _ _ number) h)
+number_low digits i number h = low (get_or digits i 0) (number_digit digits i (and_second _ _ number) h)
   where
     low : (c : ℕ) → is_ascii_digit c ≡ true → 48 ≤ c
     low c h = grind (arith, common_steps)
@@ -100,9 +89,6 @@ place_chunked limit false = refl
 pub place_refused : (limit : ℕ) (keeps : Bool) → Failed BadFraming ≡ body_place limit (announced keeps None)
 unfolding body_place
 place_refused limit keeps = refl
-
-same_bytes : (v : List ℕ) → bytes_eq v v ≡ true
-same_bytes v = (bytes_eq-Decides v v).1 refl
 
 sized_first : (value : List ℕ) (more : List (List ℕ)) → list_all (λ v. bytes_eq v value) (value ∷ more) ≡ list_all (λ v. bytes_eq v value) more
 sized_first value more = ap (λ (b : Bool). b && list_all (λ v. bytes_eq v value) more) (same_bytes value)
@@ -142,10 +128,6 @@ framing_coded fields coding more v is e =
     framed_at (values_of (codes "transfer-encoding") fields) (values_of (codes "content-length") fields) coding more is ∙ ap (λ (b : Bool). if b then Some Chunked else None) e
 
 -- ---- a whole head
-
-assoc : (a b c : Bool) → (a && (b && c)) ≡ ((a && b) && c)
-assoc true b c = refl
-assoc false b c = refl
 
 framing_same : (h : ResponseHead) (o : Option Framing) → framing_read h o ≡ announced ((h.minor == 1) && not (says_close (pairs_of h.fields))) o
 framing_same h None = refl

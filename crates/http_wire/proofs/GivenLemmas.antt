@@ -3,7 +3,7 @@ use Rattle.std.proofs.Common.{◌≡◌, ℕ, suc, ◌+◌, ◌≤◌, Bool, tru
 use Rattle.tpf_base.specs.HttpReply.{Place, InHeads, InSized, InUnsized, InLine, InChunk, AtReturn, AtNewline, InTrailer, Finished, Failed, Reading, More, Whole, Bad, one_more, is_open, after_byte, after_bytes, reading_from, at_the_end}
 use Rattle.http_wire.specs.Replies.{reply_at}
 use Rattle.http_wire.specs.Laws.{place_behind, WhatIsReadIsGiven}
-use Rattle.http_wire.proofs.RunLemmas.{over_bytes, over_reading, open_reading}
+use Rattle.http_wire.proofs.RunLemmas.{over_bytes, over_reading, open_reading, reading_none}
 
 -- the place behind at most so many bytes gives what was read
 abbrev Gives : Bool → ℕ → Place → Reading → Type 0
@@ -56,10 +56,6 @@ gives limit place (b ∷ bs) at_end = gives_case limit place b bs at_end (gives 
 
 -- ---- the bytes that belong to the reply
 
-reads_none : (limit : ℕ) (place : Place) (at_end : Bool) → reading_from limit place [] at_end ≡ at_the_end at_end place
-unfolding reading_from
-reads_none limit place at_end = refl
-
 whole_end : (at_end : Bool) (place : Place) (body : List ℕ) (n : ℕ) (keeps : Bool) → at_the_end at_end place ≡ Whole body n keeps → n ≡ 0
 whole_end true (InUnsized g) body n keeps e = cc
 whole_end false (InUnsized g) body n keeps e = absurd cc
@@ -77,7 +73,7 @@ whole_end at_end (Failed fault) body n keeps e = absurd cc
 alone_end : (limit : ℕ) (place : Place) (bytes : List ℕ) (at_end : Bool) (body : List ℕ) (n : ℕ) (keeps : Bool) → at_the_end at_end place ≡ Whole body n keeps
     → reading_from limit place (take n bytes) at_end ≡ Whole body n keeps
 alone_end limit place bytes at_end body n keeps e =
-    ap (λ (k : ℕ). reading_from limit place (take k bytes) at_end) (whole_end at_end place body n keeps e) ∙ reads_none limit place at_end ∙ e
+    ap (λ (k : ℕ). reading_from limit place (take k bytes) at_end) (whole_end at_end place body n keeps e) ∙ reading_none limit place at_end ∙ e
 
 alone_one : (limit : ℕ) (place : Place) (b : ℕ) (bs : List ℕ) (at_end : Bool) (body : List ℕ) (n : ℕ) (keeps : Bool) (r : Reading) → is_open place ≡ true
     → reading_from limit (after_byte limit place b) bs at_end ≡ r
@@ -104,7 +100,7 @@ alone_case limit place b bs at_end body n keeps again whole false e =
 
 reads_alone : (limit : ℕ) (place : Place) (bytes : List ℕ) (at_end : Bool) (body : List ℕ) (n : ℕ) (keeps : Bool) → reading_from limit place bytes at_end ≡ Whole body n keeps
     → reading_from limit place (take n bytes) at_end ≡ Whole body n keeps
-reads_alone limit place [] at_end body n keeps whole = alone_end limit place [] at_end body n keeps (sym (reads_none limit place at_end) ∙ whole)
+reads_alone limit place [] at_end body n keeps whole = alone_end limit place [] at_end body n keeps (sym (reading_none limit place at_end) ∙ whole)
 reads_alone limit place (b ∷ bs) at_end body n keeps whole =
     alone_case limit place b bs at_end body n keeps (λ m h. reads_alone limit (after_byte limit place b) bs at_end body m keeps h) whole (is_open place) refl
 

@@ -1,11 +1,11 @@
 -- A reply wants only so many bytes.
-use Rattle.std.proofs.Common.{◌≡◌, ℕ, suc, ◌+◌, ◌*◌, ◌-◌, ◌<◌, ◌≤◌, ◌==◌, Bool, true, false, List, [], ◌∷◌, ◌++◌, length, Option, Some, None, refl, sym, if◌then◌else◌, ◌∙◌, subst, arith, length-append}
+use Rattle.std.proofs.Common.{◌≡◌, ℕ, suc, ◌+◌, ◌*◌, ◌-◌, ◌<◌, ◌≤◌, ◌==◌, Bool, true, false, List, [], ◌∷◌, ◌++◌, length, Option, Some, None, refl, sym, if◌then◌else◌, ◌∙◌, subst, arith}
 use Rattle.std.specs.Prelude.{nat_lt, nat_le}
 use Rattle.std.proofs.lemmas.Grind.{common_steps}
 use Rattle.httparse.specs.Grammar.{ResponseHead}
 use Rattle.tpf_base.specs.HttpReply.{Place, InHeads, InSized, InUnsized, InLine, InChunk, AtReturn, AtNewline, InTrailer, Finished, Failed, Gathered, Reading, More, Whole, Bad, one_more, is_open, after_byte, after_bytes, reading_from, at_the_end, begun, reply_of, HeadRead, Announces, IsRefused, Sized, Chunked, ToClose, with_byte, with_extra, is_over, is_padded, unless, after_head_byte, head_place, body_place, final_head, is_interim, response_head, line_place, after_line_byte, after_trailer_byte, chunk_size, gathering, TooLong, BadHead, BadFraming}
 use Rattle.tpf_base.specs.HttpHeads.{ends_empty, field_lines}
-use Rattle.http_wire.specs.Laws.{WantsFewBytes}
+use Rattle.std.proofs.lemmas.List.{length_push}
 use Rattle.http_wire.proofs.RunLemmas.{over_reading, open_reading}
 
 -- ---- a bound
@@ -90,19 +90,16 @@ trailer_step limit n lines g h =
     either limit n (nat_lt 65536 (length lines)) (Failed TooLong) (if ends_empty (10 ∷ lines) (length lines + 1) then Finished g else InTrailer lines g) (λ e. tt)
     (λ e. either limit n (ends_empty (10 ∷ lines) (length lines + 1)) (Finished g) (InTrailer lines g) (λ f. tt) (λ f. (h.0, h.1, h.2, lt_false 65536 (length lines) e)))
 
-one_longer : (xs : List ℕ) (b : ℕ) → length (xs ++ b ∷ []) ≡ length xs + 1
-one_longer xs b = length-append xs (b ∷ [])
-
 step : (limit n : ℕ) (place : Place) (b : ℕ) → Holds limit n place → Holds limit (n + 1) (after_byte limit place b)
-step limit n (InHeads passed head) b h = let more = one_longer head b in head_step limit (n + 1) passed (head ++ b ∷ []) (omega (arith, h.0)) (omega (arith, h.1))
+step limit n (InHeads passed head) b h = let more = length_push head b in head_step limit (n + 1) passed (head ++ b ∷ []) (omega (arith, h.0)) (omega (arith, h.1))
 step limit n (InSized wanted g) b h =
     either limit (n + 1) (nat_le wanted 1) (Finished (with_byte g b)) (InSized (wanted - 1) (with_byte g b)) (λ e. tt) (λ e. let more = le_false wanted 1 e in omega arith)
 step limit n (InUnsized g) b h =
-    let more = one_longer g.body b in
+    let more = length_push g.body b in
     either limit (n + 1) (is_over limit (with_byte g b)) (Failed TooLong) (InUnsized (with_byte g b)) (λ e. tt) (λ e. (omega (arith, h.0), not_over limit (with_byte g b) e))
 step limit n (InLine line g) b h = line_step limit (n + 1) (line ++ b ∷ []) b (with_extra g) (omega (arith, h.0), h.1)
 step limit n (InChunk wanted g) b h =
-    let more = one_longer g.body b in
+    let more = length_push g.body b in
     either limit (n + 1) (is_over limit (with_byte g b)) (Failed TooLong) (if nat_le wanted 1 then AtReturn (with_byte g b) else InChunk (wanted - 1) (with_byte g b)) (λ e. tt)
     (λ e. either limit (n + 1) (nat_le wanted 1) (AtReturn (with_byte g b)) (InChunk (wanted - 1) (with_byte g b)) (λ f. (omega (arith, h.0), not_over limit (with_byte g b) e, omega (arith, h.2))) (λ f. (omega (arith, h.0), not_over limit (with_byte g b) e, omega (arith, h.2))))
 step limit n (AtReturn g) b h =
@@ -111,7 +108,7 @@ step limit n (AtReturn g) b h =
 step limit n (AtNewline g) b h =
     either limit (n + 1) (b == 10) (unless (is_padded (with_extra g)) (InLine [] (with_extra g))) (Failed BadFraming)
     (λ e. either limit (n + 1) (is_padded (with_extra g)) (Failed TooLong) (InLine [] (with_extra g)) (λ p. tt) (λ p. (omega (arith, h.0), h.1, unpadded (with_extra g) p))) (λ e. tt)
-step limit n (InTrailer lines g) b h = let more = one_longer lines b in trailer_step limit (n + 1) (lines ++ b ∷ []) g (omega (arith, h.0), h.1, h.2)
+step limit n (InTrailer lines g) b h = let more = length_push lines b in trailer_step limit (n + 1) (lines ++ b ∷ []) g (omega (arith, h.0), h.1, h.2)
 step limit n (Finished g) b h = tt
 step limit n (Failed fault) b h = tt
 
@@ -230,9 +227,9 @@ pads_step : (limit : ℕ) (place : Place) (b : ℕ) → Pads place → Pads (aft
 pads_step limit (InHeads passed head) b h = pads_head_step limit passed (head ++ b ∷ [])
 pads_step limit (InSized wanted g) b h = pads_either (nat_le wanted 1) (Finished (with_byte g b)) (InSized (wanted - 1) (with_byte g b)) (λ e. tt) (λ e. tt)
 pads_step limit (InUnsized g) b h = pads_either (is_over limit (with_byte g b)) (Failed TooLong) (InUnsized (with_byte g b)) (λ e. tt) (λ e. tt)
-pads_step limit (InLine line g) b h = let more = one_longer line b in pads_line_step (line ++ b ∷ []) b (with_extra g) (omega (arith, h.0))
+pads_step limit (InLine line g) b h = let more = length_push line b in pads_line_step (line ++ b ∷ []) b (with_extra g) (omega (arith, h.0))
 pads_step limit (InChunk wanted g) b h =
-    let more = one_longer g.body b in
+    let more = length_push g.body b in
     pads_either (is_over limit (with_byte g b)) (Failed TooLong) (if nat_le wanted 1 then AtReturn (with_byte g b) else InChunk (wanted - 1) (with_byte g b)) (λ e. tt)
     (λ e. pads_either (nat_le wanted 1) (AtReturn (with_byte g b)) (InChunk (wanted - 1) (with_byte g b)) (λ f. omega arith) (λ f. omega arith))
 pads_step limit (AtReturn g) b h =
@@ -268,7 +265,7 @@ reply_bounded limit bytes at_end more =
     let most = held_open limit (0 + length bytes) (after_bytes limit begun bytes) all (more_open limit begun bytes at_end more) in
     omega arith
 
-pub reply_few : WantsFewBytes
+pub reply_few : (limit : ℕ) (bytes : List ℕ) (at_end : Bool) → reply_of bytes at_end limit ≡ More → length bytes < 2048 * limit + 262144
 reply_few limit bytes at_end more =
     let all = steps limit 0 begun bytes (omega arith, omega arith) in
     let few = padded_few limit (0 + length bytes) (after_bytes limit begun bytes) all (pads_steps limit begun bytes tt) (more_open limit begun bytes at_end more) in

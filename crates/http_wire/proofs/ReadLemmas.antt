@@ -15,7 +15,8 @@ use Rattle.http_wire.specs.declared.state.Part.TheVariants as parts
 use Rattle.http_wire.specs.Replies.{Runs, longer}
 use Rattle.http_wire.specs.Places.{room_at, room_for, with_run, place_for, place_of, gathered_of, line_behind, body_behind, count_behind, ReadsTo, RunsOn}
 use Rattle.http_wire.proofs.RunLemmas.{runs_first, runs_on, runs_one, runs_over, runs_out}
-use Rattle.http_wire.proofs.BodyLemmas.{body_runs, none_long}
+use Rattle.std.proofs.lemmas.List.{nil_from_length}
+use Rattle.http_wire.proofs.BodyLemmas.{body_runs}
 
 -- ---- one byte of each kind
 
@@ -56,7 +57,7 @@ pub head_step : (old new : State) (part : Part) (line held body : List ℕ) (b :
     → place_of new (line_behind part line) [] ≡ after_head_byte old.limit old.passed line
     → place_of new (line_behind part line) (body_behind part body (b ∷ [])) ≡ after_byte old.limit (place_of old held body) b
 head_step old new part line held body b heads none other is count place =
-    let empty : body ≡ [] = none_long body (count ∙ none) in
+    let empty : body ≡ [] = nil_from_length body (count ∙ none) in
     let before : place_of old held body ≡ InHeads old.passed held = ap (λ (at : Stage). place_for at old.passed held (gathered_of old body)) heads in
     ap (place_of new (line_behind part line)) (body_stays part body (b ∷ []) other ∙ empty) ∙ place ∙ ap (after_head_byte old.limit old.passed) is
     ∙ sym (ap (λ (p : Place). after_byte old.limit p b) before)

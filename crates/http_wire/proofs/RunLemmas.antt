@@ -1,12 +1,13 @@
 -- Reading byte after byte, and what is read of bytes that are cut.
-use Rattle.std.proofs.Common.{◌≡◌, ℕ, suc, ◌+◌, ◌<◌, ◌≤◌, Bool, true, false, List, [], ◌∷◌, ◌++◌, length, take, drop, get_or, refl, sym, ap, ◌∙◌, arith}
+use Rattle.std.proofs.Common.{◌≡◌, ℕ, suc, ◌+◌, ◌<◌, ◌≤◌, Bool, true, false, List, [], ◌∷◌, ◌++◌, length, take, drop, get_or, Some, refl, sym, ap, ◌∙◌, arith}
 use Rattle.std.proofs.lemmas.List.{drop-drop, take-append-drop, length-take-le}
 use Rattle.std.proofs.Math.Seq.{drop-length}
 use Rattle.std.proofs.Common.{if◌then◌else◌}
 use Rattle.tpf_base.specs.HttpReply.{Place, InHeads, InSized, InUnsized, InLine, InChunk, AtReturn, AtNewline, InTrailer, Finished, Failed, Reading, More, Whole, Bad, one_more, is_open, after_byte, after_bytes, reading_from, at_the_end}
 use Rattle.http_wire.specs.declared.message.ReplyFault.{ReplyFault}
 use Rattle.http_wire.specs.declared.message.ReplyFault.TheVariants as code
-use Rattle.http_wire.specs.Replies.{shown_fault, fault_of, longer, Runs}
+use Rattle.http_wire.specs.declared.message.Reply.{Reply}
+use Rattle.http_wire.specs.Replies.{shown_fault, fault_of, longer, reply_at, Runs}
 
 pub fault_back : (fault : ReplyFault) → shown_fault (fault_of fault) ≡ fault
 fault_back code.Head = refl
@@ -18,6 +19,19 @@ fault_back code.TooLong = refl
 
 pub done_at : (n : ℕ) → n + 0 ≡ n
 done_at n = omega arith
+
+-- a place with a reply is not open
+pub given_is_closed : (place : Place) (r : Reply) → reply_at place ≡ Some r → is_open place ≡ false
+given_is_closed (InHeads passed head) r e = absurd cc
+given_is_closed (InSized wanted g) r e = absurd cc
+given_is_closed (InUnsized g) r e = absurd cc
+given_is_closed (InLine line g) r e = absurd cc
+given_is_closed (InChunk wanted g) r e = absurd cc
+given_is_closed (AtReturn g) r e = absurd cc
+given_is_closed (AtNewline g) r e = absurd cc
+given_is_closed (InTrailer lines g) r e = absurd cc
+given_is_closed (Finished g) r e = refl
+given_is_closed (Failed fault) r e = refl
 
 -- a reply that is over stays as it is
 stays : (limit : ℕ) (place : Place) (b : ℕ) → is_open place ≡ false → after_byte limit place b ≡ place
@@ -107,7 +121,7 @@ after_none : (limit : ℕ) (place : Place) → after_bytes limit place [] ≡ pl
 unfolding after_bytes
 after_none limit place = refl
 
-reading_none : (limit : ℕ) (place : Place) (at_end : Bool) → reading_from limit place [] at_end ≡ at_the_end at_end place
+pub reading_none : (limit : ℕ) (place : Place) (at_end : Bool) → reading_from limit place [] at_end ≡ at_the_end at_end place
 unfolding reading_from
 reading_none limit place at_end = refl
 

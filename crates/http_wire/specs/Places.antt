@@ -1,8 +1,8 @@
 -- The code's stages as places in a reply.
-use Rattle.std.specs.Prelude.{ℕ, ◌≡◌, ◌+◌, ◌-◌, ◌<◌, ◌≤◌, ◌==◌, ◌++◌, Bool, false, not, ◌&&◌, nat_lt, nat_le, min, List, [], length, take, drop, codes, Option, Some, None, if◌then◌else◌}
+use Rattle.std.specs.Prelude.{ℕ, ◌≡◌, ◌+◌, ◌-◌, ◌<◌, ◌≤◌, ◌==◌, ◌++◌, Bool, true, false, not, ◌&&◌, nat_lt, nat_le, min, List, [], ◌∷◌, length, take, drop, codes, Option, Some, None, if◌then◌else◌}
 use Rattle.std.specs.List.{between, list_any}
 use Rattle.tpf_base.specs.HttpHeads.{values_of, says_close, field_lines}
-use Rattle.tpf_base.specs.HttpReply.{Place, InHeads, InSized, InUnsized, InLine, InChunk, AtReturn, AtNewline, InTrailer, Finished, Failed, Gathered, gathering, TooLong, BadFraming, BadHead, BadStatus, BadMediaType, BadCoding, HeadRead, Announces, IsRefused, Framing, is_to_close, is_nquads, is_coding, framing_of, heads_limit, head_place, response_head, begun, after_bytes, reading_from, at_the_end}
+use Rattle.tpf_base.specs.HttpReply.{Place, InHeads, InSized, InUnsized, InLine, InChunk, AtReturn, AtNewline, InTrailer, Finished, Failed, Gathered, gathering, TooLong, BadFraming, BadHead, BadStatus, BadMediaType, BadCoding, HeadRead, Announces, IsRefused, Framing, is_to_close, is_nquads, is_coding, framing_of, heads_limit, head_place, response_head, begun, is_open, after_byte, after_bytes, reading_from, at_the_end}
 use Rattle.http_wire.specs.Replies.{fault_of, closed_at, longer, Runs}
 use Rattle.http_wire.specs.declared.state.Stage.{Stage}
 use Rattle.http_wire.specs.declared.state.Stage.TheVariants as stage
@@ -61,6 +61,19 @@ gathered_of s body = record { keeps = s.keeps; body = body; extra = s.extra }
 -- the place of a state, where this is the head or the line so far, and this the body
 abbrev pub place_of : State → List ℕ → List ℕ → Place
 place_of s line body = place_for s.stage s.passed line (gathered_of s body)
+
+-- the reply goes on at this stage
+abbrev pub IsOpenAt : Stage → Type 0
+IsOpenAt stage = (passed : ℕ) (held : List ℕ) (g : Gathered) → is_open (place_for stage passed held g) ≡ true
+
+-- Behind one more byte of the body, whichever it is, stands the place behind that byte, from this place of the body so far.
+abbrev pub TakesByte : State → State → (Gathered → Place) → Type 0
+TakesByte old new place =
+    (body : List ℕ) (b : ℕ) → length body ≡ old.count → place_of new [] (body ++ b ∷ []) ≡ after_byte old.limit (place (gathered_of old body)) b
+
+-- The same behind this byte, which is none of the body.
+abbrev pub PassesByte : State → State → ℕ → (Gathered → Place) → Type 0
+PassesByte old new b place = (body : List ℕ) → length body ≡ old.count → place_of new [] body ≡ after_byte old.limit (place (gathered_of old body)) b
 
 -- ---- runs of a body
 

@@ -100,7 +100,8 @@ fn split_digits(line: &[u8]) -> (&[u8], &[u8])
 
 /// Whether these are the parts of a chunk line.
 fn are_parts(digits: &[u8], rest: &[u8]) -> bool
-    ensures { result ≡ (nat_lt 0 (length digits.now) && (nat_le (length digits.now) 15 && is_line_rest (skip_ows rest.now))) }
+    ensures { result ≡ (nat_lt 0 (length digits.now)
+        && (nat_le (length digits.now) 15 && is_line_rest (skip_ows rest.now))) }
 {
     digits.len() > 0 && digits.len() <= MOST_DIGITS && is_line_rest(skip_blanks(rest))
 }

@@ -1,10 +1,11 @@
 // The fields of a head, by their names.
-ghost use Rattle.std.specs.Prelude.{◌≡◌, ◌==◌, ◌||◌, ◌≤◌, length, map, reverse, not, codes, bytes_eq};
+ghost use Rattle.std.specs.Prelude.{◌≡◌, ◌==◌, ◌||◌, ◌≤◌, length, reverse, not, codes, bytes_eq};
 ghost use Rattle.std.specs.List.{All, list_any, position_or_len};
 ghost use Rattle.std.specs.Str.{str_eq_ignore_ascii_case};
 ghost use Rattle.httparse.specs.Grammar.{is_ows, skip_ows, trim_ows};
-ghost use Rattle.httparse.specs.Spans.{header_bytes, IsHeaderWithin};
-ghost use Rattle.tpf_base.specs.HttpHeads.{values_of, is_word, has_word, says_close, has_body};
+ghost use Rattle.httparse.specs.Spans.{IsHeaderWithin};
+ghost use Rattle.tpf_base.specs.HttpHeads.{is_word, has_word, says_close, has_body};
+ghost use Rattle.http_wire.specs.Fields.{fields_at, values_at};
 
 use httparse::spans::HeaderSpan;
 
@@ -76,7 +77,7 @@ pub fn is_named(name: &[u8], header: &[u8]) -> bool
 /// How many fields have the name.
 pub fn count_named(head: &[u8], headers: &[HeaderSpan], name: &[u8]) -> usize
     requires { All (IsHeaderWithin (length head.now)) headers.now }
-    ensures { result ≡ length (values_of name.now (map (header_bytes head.now) headers.now)) }
+    ensures { result ≡ length (values_at name.now head.now headers.now) }
 {
     let mut count = 0usize;
     for header in headers {
@@ -90,7 +91,7 @@ pub fn count_named(head: &[u8], headers: &[HeaderSpan], name: &[u8]) -> usize
 /// Whether a Connection field holds the word `close`.
 pub fn says_close(head: &[u8], headers: &[HeaderSpan]) -> bool
     requires { All (IsHeaderWithin (length head.now)) headers.now }
-    ensures { result ≡ says_close (map (header_bytes head.now) headers.now) }
+    ensures { result ≡ says_close (fields_at head.now headers.now) }
 {
     for header in headers {
         if is_named(b"connection", header.name.of(head))
@@ -105,7 +106,8 @@ pub fn says_close(head: &[u8], headers: &[HeaderSpan]) -> bool
 /// Whether a Content-Length field has a value other than `0`.
 fn has_length(head: &[u8], headers: &[HeaderSpan]) -> bool
     requires { All (IsHeaderWithin (length head.now)) headers.now }
-    ensures { result ≡ list_any (λ v. not (bytes_eq v (codes "0"))) (values_of (codes "content-length") (map (header_bytes head.now) headers.now)) }
+    ensures { result ≡ list_any (λ v. not (bytes_eq v (codes "0")))
+        (values_at (codes "content-length") head.now headers.now) }
 {
     for header in headers {
         if is_named(b"content-length", header.name.of(head))
@@ -120,7 +122,7 @@ fn has_length(head: &[u8], headers: &[HeaderSpan]) -> bool
 /// Whether the fields announce a body.
 pub fn has_body(head: &[u8], headers: &[HeaderSpan]) -> bool
     requires { All (IsHeaderWithin (length head.now)) headers.now }
-    ensures { result ≡ has_body (map (header_bytes head.now) headers.now) }
+    ensures { result ≡ has_body (fields_at head.now headers.now) }
 {
     count_named(head, headers, b"transfer-encoding") > 0 || has_length(head, headers)
 }

@@ -1,10 +1,11 @@
 // What becomes of one whole request head.
-ghost use Rattle.std.specs.Prelude.{◌||◌, codes, ◌≡◌, ◌≤◌, ◌==◌, [], length, map, IfOk, IfSome, IsNone, Some, None};
+ghost use Rattle.std.specs.Prelude.{◌||◌, codes, ◌≡◌, ◌≤◌, ◌==◌, [], length, IfOk, IfSome, IsNone, Some, None};
 ghost use Rattle.std.specs.List.{All};
 ghost use Rattle.httparse.specs.Grammar.{RequestHead as HeadTree, ReadsRequest};
-ghost use Rattle.httparse.specs.Spans.{header_bytes, IsHeaderWithin, IsRequestAt, IsRequestWithin};
-ghost use Rattle.tpf_base.specs.HttpHeads.{blank_length, judged, judged_head, names_host, closes, taken_whole, values_of, says_close, has_body};
+ghost use Rattle.httparse.specs.Spans.{IsHeaderWithin, IsRequestAt, IsRequestWithin};
+ghost use Rattle.tpf_base.specs.HttpHeads.{blank_length, judged, judged_head, names_host, closes, taken_whole, says_close, has_body};
 ghost use Rattle.tpf_base.specs.HttpReader.{read_request};
+ghost use Rattle.http_wire.specs.Fields.{fields_at, values_at};
 ghost use Rattle.http_wire.specs.Requests.{asked_of, shown_verdict};
 
 use crate::heads::line_feeds;
@@ -35,7 +36,8 @@ fn method_of(method: &[u8]) -> Asked
 fn whole_request(head: &[u8], headers: &mut [HeaderSpan]) -> Option<RequestSpans>
     requires begins { blank_length head.now ≡ 0 }
     requires room { (h : HeadTree) → ReadsRequest head.now h [] → length h.fields ≤ length headers.old }
-    ensures some { IfSome result (λ r. (h : HeadTree) × (taken_whole (read_request head.now) ≡ Some h) × IsRequestAt head.now headers.new r h) }
+    ensures some { IfSome result (λ r. (h : HeadTree) × (taken_whole (read_request head.now) ≡ Some h)
+        × IsRequestAt head.now headers.new r h) }
     ensures within { IfSome result (λ r. IsRequestWithin head.now headers.new r) }
     ensures none { IsNone result → taken_whole (read_request head.now) ≡ None }
 {
@@ -54,7 +56,7 @@ fn whole_request(head: &[u8], headers: &mut [HeaderSpan]) -> Option<RequestSpans
 /// Whether a head of this version names its host as it must.
 fn names_host(head: &[u8], headers: &[HeaderSpan], version: u8) -> bool
     requires { All (IsHeaderWithin (length head.now)) headers.now }
-    ensures { result ≡ (version == 0 || length (values_of (codes "host") (map (header_bytes head.now) headers.now)) == 1) }
+    ensures { result ≡ (version == 0 || length (values_at (codes "host") head.now headers.now) == 1) }
 {
     version == 0 || fields::count_named(head, headers, b"host") == 1
 }
@@ -62,7 +64,8 @@ fn names_host(head: &[u8], headers: &[HeaderSpan], version: u8) -> bool
 /// Whether the connection ends with the request.
 fn closes(head: &[u8], headers: &[HeaderSpan], version: u8) -> bool
     requires { All (IsHeaderWithin (length head.now)) headers.now }
-    ensures { result ≡ (version == 0 || (says_close (map (header_bytes head.now) headers.now) || has_body (map (header_bytes head.now) headers.now))) }
+    ensures { result ≡ (version == 0
+        || (says_close (fields_at head.now headers.now) || has_body (fields_at head.now headers.now))) }
 {
     version == 0 || fields::says_close(head, headers) || fields::has_body(head, headers)
 }
@@ -76,7 +79,8 @@ fn request_of(
     headers: &[HeaderSpan],
 ) -> Result<NextHead, OutOfMemory>
     requires within { IsRequestWithin head.now headers.now read }
-    ensures { (h : HeadTree) → IsRequestAt head.now headers.now read h → IfOk result (λ n. n ≡ shown_verdict (judged_head (Some h))) }
+    ensures { (h : HeadTree) → IsRequestAt head.now headers.now read h
+        → IfOk result (λ n. n ≡ shown_verdict (judged_head (Some h))) }
 {
     let headers = &headers[..read.headers];
     let path = read.path.of(head);

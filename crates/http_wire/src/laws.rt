@@ -1,16 +1,14 @@
 // Laws of the definitions: what is read does not depend on the cuts, is what a feed gives, and wants only so many bytes.
-ghost use Rattle.std.specs.Prelude.{ℕ, List, Bool, ◌≡◌, ◌+◌, ◌*◌, ◌<◌, ◌≤◌, ◌++◌, length, true, false};
+ghost use Rattle.std.specs.Prelude.{ℕ, List, ◌≡◌, ◌<◌, ◌≤◌, ◌++◌, length};
 ghost use Rattle.tpf_base.specs.HttpHeads.{Request, Taken, Refused, next_request};
 ghost use Rattle.tpf_base.specs.HttpConnection.{HeadsAreRead, AllHeadsAreRead, HeadsGoOn};
-ghost use Rattle.tpf_base.specs.HttpReply.{Place, More, is_open, after_bytes, reading_from, reply_of};
-ghost use Rattle.http_wire.specs.Replies.{longer};
-ghost use Rattle.http_wire.specs.Laws.{WhatIsReadIsGiven, WantsFewBytes};
+ghost use Rattle.http_wire.specs.Laws.{PlaceIsCut, ReadingIsCut, ReadingIsOver, WhatIsReadIsGiven, WantsFewBytes, WantsBoundedBytes};
 
 /// What is read of a reply does not depend on how its bytes are cut.
 pub fn cuts_do_not_matter()
-    ensures place { (limit : ℕ) (place : Place) (xs ys : List ℕ) → after_bytes limit place (xs ++ ys) ≡ after_bytes limit (after_bytes limit place xs) ys }
-    ensures reading { (limit : ℕ) (place : Place) (xs ys : List ℕ) (at_end : Bool) → is_open (after_bytes limit place xs) ≡ true → reading_from limit place (xs ++ ys) at_end ≡ longer (length xs) (reading_from limit (after_bytes limit place xs) ys at_end) }
-    ensures stays { (limit : ℕ) (place : Place) (xs ys : List ℕ) (at_end : Bool) → is_open (after_bytes limit place xs) ≡ false → reading_from limit place (xs ++ ys) at_end ≡ reading_from limit place xs at_end }
+    ensures place { PlaceIsCut }
+    ensures reading { ReadingIsCut }
+    ensures stays { ReadingIsOver }
 {}
 
 /// What is read of all bytes of a reply is what a feed gives that took them, over any cuts: where a
@@ -24,15 +22,18 @@ pub fn what_is_read_is_given()
 /// for large ones `most`.
 pub fn a_reply_is_bounded()
     ensures few { WantsFewBytes }
-    ensures most { (limit : ℕ) (bytes : List ℕ) (at_end : Bool) → reply_of bytes at_end limit ≡ More → length bytes ≤ 9 * limit + 1179648 }
+    ensures most { WantsBoundedBytes }
 {}
 
 /// The bytes that follow a whole request, or a refusal, do not change it; a request takes at least
 /// one byte, and no more than there are.
 pub fn a_request_stays()
-    ensures taken { (xs ys : List ℕ) (r : Request) (n : ℕ) → next_request xs ≡ Taken r n → next_request (xs ++ ys) ≡ Taken r n }
-    ensures within { (xs : List ℕ) (r : Request) (n : ℕ) → next_request xs ≡ Taken r n → (0 < n) × (n ≤ length xs) }
-    ensures refused { (xs ys : List ℕ) (status : ℕ) → next_request xs ≡ Refused status → next_request (xs ++ ys) ≡ Refused status }
+    ensures taken { (xs ys : List ℕ) (r : Request) (n : ℕ) → next_request xs ≡ Taken r n
+        → next_request (xs ++ ys) ≡ Taken r n }
+    ensures within { (xs : List ℕ) (r : Request) (n : ℕ) → next_request xs ≡ Taken r n
+        → (0 < n) × (n ≤ length xs) }
+    ensures refused { (xs ys : List ℕ) (status : ℕ) → next_request xs ≡ Refused status
+        → next_request (xs ++ ys) ≡ Refused status }
 {}
 
 /// The heads of a connection (RFC 9112, section 9.3) are the next request and then the heads of what

@@ -21,7 +21,7 @@ mod framing;
 mod given;
 mod heads;
 mod judge;
-mod laws;
+pub mod laws;
 mod message;
 mod reply;
 mod request;
@@ -31,9 +31,6 @@ mod target;
 mod write;
 
 pub use given::drop_given;
-pub use laws::{
-    a_reply_is_bounded, a_request_stays, cuts_do_not_matter, heads_are_read, what_is_read_is_given,
-};
 pub use message::{Asked, Fed, Field, NextHead, Reply, ReplyFault, RequestHead};
 pub use reply::ReplyFeed;
 pub use request::RequestFeed;

@@ -33,10 +33,11 @@ pub enum NextHead {
     /// The next request.
     Head(RequestHead),
     /// The status with which the connection ends: 431 for a head with more than 64 field lines, and
-    /// for one that together with the empty lines before it has more than 4194304 bytes; 400 for
-    /// what is no head of HTTP/1.0 or 1.1, a head of 1.1 without exactly one Host field, and a
-    /// target that begins with neither `/` nor `http://`, or has a `#` or a byte that is no visible
-    /// ASCII (RFC 9110, section 15.5.1; RFC 9112, section 3.2; RFC 6585, section 5).
+    /// for one that together with the empty lines before it has more bytes than `HEAD_LIMIT` of
+    /// `tpf_base` (4194304); 400 for what is no head of HTTP/1.0 or 1.1, a head of 1.1 without
+    /// exactly one Host field, and a target that begins with neither `/` nor `http://`, or has a `#`
+    /// or a byte that is no visible ASCII (RFC 9110, section 15.5.1; RFC 9112, section 3.2; RFC 6585,
+    /// section 5).
     Bad(u16),
 }
 
@@ -83,11 +84,12 @@ pub enum ReplyFault {
     Coding,
     /// What is not taken as a length or as chunks: a Transfer-Encoding other than one `chunked`,
     /// Content-Lengths other than the same digits, a chunk line other than one to fifteen
-    /// hexadecimal digits, blanks, and nothing or an extension, one of more than 1024 bytes, and a
-    /// chunk without CR LF behind it (RFC 9112, sections 6 and 7).
+    /// hexadecimal digits, blanks, and nothing or an extension, one of more bytes than `LINE_LIMIT`
+    /// of `tpf_base` (1024), and a chunk without CR LF behind it (RFC 9112, sections 6 and 7).
     Framing,
-    /// Heads together of more than 65536 bytes, a body longer than the limit, more than 65536 bytes
-    /// of lines behind the last chunk, or chunk lines and line ends behind chunks that are more
-    /// than 1048576 bytes and eight for each byte of the body so far.
+    /// Heads together of more bytes than `HEADS_LIMIT` of `tpf_base` (65536), a body longer than the
+    /// limit, lines behind the last chunk of more bytes than `HEADS_LIMIT`, or chunk lines and line
+    /// ends behind chunks of more bytes than `PADDING_LIMIT` (1048576) and eight for each byte of the
+    /// body so far.
     TooLong,
 }

@@ -15,7 +15,8 @@ use tpf_base::{Bytes, OutOfMemory};
 /// What a feed answers at a stage, where so many bytes of the piece were read.
 #[tactic(auto, using(crate::proofs::RunLemmas::fault_back, crate::proofs::RunLemmas::done_at))]
 fn answer(stage: Stage, used: usize) -> Fed
-    ensures { (passed : ℕ) (held : List ℕ) (g : Gathered) → result ≡ shown (longer used (at_the_end false (place_for stage passed held g))) }
+    ensures { (passed : ℕ) (held : List ℕ) (g : Gathered)
+        → result ≡ shown (longer used (at_the_end false (place_for stage passed held g))) }
 {
     match stage {
         Stage::Finished => Fed::Done { used },

@@ -1,6 +1,7 @@
 // The heads of the requests of a connection, as its bytes come.
 ghost use Rattle.std.specs.Prelude.{◌≡◌, ◌+◌, ◌^◌, ◌<◌, ◌≤◌, ◌++◌, [], length, take, drop, IfOk, OnOk, OnErr, IfSome, None};
 ghost use Rattle.tpf_base.specs.HttpHeads.{blank_length, head_length, judged, with_length, next_request};
+ghost use Rattle.tpf_base.specs.declared.limits.TheConstants.{HEAD_LIMIT};
 ghost use Rattle.http_wire.specs.Requests.{Held, holding, refusing, fed, next_of, after_next, after_answer, shown, shown_verdict};
 ghost use Rattle.http_wire.specs.Searches.{IsSearched};
 
@@ -10,10 +11,7 @@ use crate::judge::judge;
 use crate::message::NextHead;
 use std::alloc::Global;
 use std::marker::Model;
-use tpf_base::OutOfMemory;
-
-/// The most bytes of a head and the empty lines before it.
-const HEAD_LIMIT: usize = 4194304;
+use tpf_base::{HEAD_LIMIT, OutOfMemory};
 
 /// How many bytes of empty lines stand at the front, and how long the head behind them is.
 #[tactic(auto, using(crate::proofs::FeedLemmas::blank_resumes, crate::proofs::FeedLemmas::least_of_none))]
@@ -170,8 +168,10 @@ impl RequestFeed {
         requires blank { blank ≡ blank_length self.old.bytes }
         requires within { blank + n ≤ length self.old.bytes }
         requires fits { blank + n < 2 ^ 64 }
-        ensures ok { IfOk result (λ a. a ≡ shown (with_length (blank + n) (judged (take n (drop blank self.old.bytes))))) }
-        ensures after { OnOk result (self.new ≡ after_answer self.old (with_length (blank + n) (judged (take n (drop blank self.old.bytes))))) }
+        ensures ok { IfOk result (λ a. a ≡ shown (with_length (blank + n)
+            (judged (take n (drop blank self.old.bytes))))) }
+        ensures after { OnOk result (self.new ≡ after_answer self.old (with_length (blank + n)
+            (judged (take n (drop blank self.old.bytes))))) }
         ensures err { OnErr result (self.new ≡ self.old) }
     {
         match self.verdict(blank, n)? {
@@ -189,7 +189,7 @@ impl RequestFeed {
         requires { self.old.refused ≡ None }
         ensures ok { IfOk result (λ a. a ≡ shown (next_request self.old.bytes)) }
         ensures after { OnOk result (self.new ≡ after_answer self.old (next_request self.old.bytes)) }
-        ensures few { IfOk result (λ a. a ≡ NextHead.More → length self.new.bytes < 4194304) }
+        ensures few { IfOk result (λ a. a ≡ NextHead.More → length self.new.bytes < HEAD_LIMIT) }
         ensures err { OnErr result (self.new ≡ self.old) }
     {
         let (blank, found) = self.look();
@@ -211,14 +211,15 @@ impl RequestFeed {
     }
 
     /// What stands next: the first whole head, behind empty lines that are passed over; `More` where
-    /// none stands whole and fewer than 4194304 bytes are held; `Bad(431)` where a head passes its
-    /// limits, and `Bad(400)` where what ends like a head is none (RFC 9112, sections 2.2, 3 and
-    /// 3.2). A head that is given is held no more. After `Bad` nothing is held, and each later call
-    /// answers the same. It fails only when it is out of memory, and the feed is then as it was.
+    /// none stands whole and fewer bytes are held than `HEAD_LIMIT` of `tpf_base` (4194304);
+    /// `Bad(431)` where a head passes its limits, and `Bad(400)` where what ends like a head is none
+    /// (RFC 9112, sections 2.2, 3 and 3.2). A head that is given is held no more. After `Bad` nothing
+    /// is held, and each later call answers the same. It fails only when it is out of memory, and the
+    /// feed is then as it was.
     pub fn next(&mut self) -> Result<NextHead, OutOfMemory>
         ensures ok { IfOk result (λ a. a ≡ shown (next_of self.old)) }
         ensures after { OnOk result (self.new ≡ after_next self.old) }
-        ensures few { IfOk result (λ a. a ≡ NextHead.More → length self.new.bytes < 4194304) }
+        ensures few { IfOk result (λ a. a ≡ NextHead.More → length self.new.bytes < HEAD_LIMIT) }
         ensures err { OnErr result (self.new ≡ self.old) }
     {
         match self.refused {

@@ -1,19 +1,15 @@
 // What was read of a reply so far, and one byte further.
-ghost use Rattle.std.specs.Prelude.{ℕ, List, ◌≡◌, ◌≢◌, ◌+◌, ◌*◌, ◌^◌, ◌≤◌, ◌<◌, ◌∷◌, ◌++◌, [], length, false, true};
+ghost use Rattle.std.specs.Prelude.{ℕ, List, ◌≡◌, ◌≢◌, ◌+◌, ◌*◌, ◌^◌, ◌≤◌, ◌<◌, ◌∷◌, ◌++◌, [], length, false};
 ghost use Rattle.tpf_base.specs.HttpHeads.{ends_empty};
-ghost use Rattle.tpf_base.specs.HttpReply.{Gathered, Failed, InSized, InUnsized, InChunk, AtReturn, AtNewline, after_byte, is_over, is_open, is_padded, line_place, after_head_byte, after_line_byte, after_trailer_byte, with_extra, chunk_size};
+ghost use Rattle.tpf_base.specs.HttpReply.{Gathered, Failed, InSized, InUnsized, InChunk, AtReturn, AtNewline, after_byte, is_over, is_padded, line_place, after_head_byte, after_line_byte, after_trailer_byte, with_extra, chunk_size};
+ghost use Rattle.tpf_base.specs.declared.limits.TheConstants.{PADDING_LIMIT};
 ghost use Rattle.http_wire.specs.declared.state.Stage.{Stage};
 
 use crate::chunk::chunk_size;
 use crate::framing::{Next, judge_reply};
 use crate::heads::{ends_empty, part_of};
 use crate::message::ReplyFault;
-
-/// The most bytes of heads, and of trailing lines.
-const HEADS_LIMIT: u128 = 65536;
-
-/// The most bytes of a chunk line.
-const LINE_LIMIT: usize = 1024;
+use tpf_base::{HEADS_LIMIT, LINE_LIMIT, PADDING_LIMIT};
 
 /// Where in a reply the bytes so far end.
 #[derive(Clone, Copy, Debug, PartialEq, Eq)]
@@ -63,7 +59,7 @@ pub struct State {
     pub count: usize,
     /// The bytes of chunk lines and of line ends behind chunks.
     pub extra: u128,
-    ghost padded: { extra ≤ 1048576 + 8 * count },
+    ghost padded: { extra ≤ PADDING_LIMIT + 8 * count },
     ghost fresh: { stage ≡ Stage.Heads → count ≡ 0 },
 }
 
@@ -81,7 +77,7 @@ fn ends_trailer(lines: &[u8]) -> bool
 }
 
 impl State {
-    ghost use Rattle.http_wire.specs.Places.{place_for, place_of, gathered_of, start_place, judged_place, room_for, with_run, line_behind, body_behind, count_behind, Keeps, ReadsTo};
+    ghost use Rattle.http_wire.specs.Places.{place_of, gathered_of, start_place, judged_place, IsOpenAt, TakesByte, PassesByte, room_for, with_run, line_behind, body_behind, count_behind, Keeps, ReadsTo};
     ghost use Rattle.http_wire.specs.Replies.{fault_of};
 
     /// No byte was read.
@@ -149,14 +145,15 @@ impl State {
     /// What becomes of a whole head.
     fn head_end(&mut self, head: &[u8])
         requires { self.old.stage ≡ Stage.Heads }
-        ensures place { place_of self.new [] [] ≡ judged_place self.old.limit (self.old.passed + length head.now) head.now }
+        ensures place { place_of self.new [] []
+            ≡ judged_place self.old.limit (self.old.passed + length head.now) head.now }
         ensures keeps { Keeps self.old self.new }
     {
         let total = self.head_bytes(head);
         match judge_reply(head, self.limit) {
             Some(next) => self.start(next),
             None => {
-                if total >= HEADS_LIMIT {
+                if total >= HEADS_LIMIT as u128 {
                     self.fail(ReplyFault::TooLong);
                 } else {
                     self.passed = total as u64;
@@ -169,7 +166,8 @@ impl State {
     #[tactic(auto, unfolding(tpf_base::specs::HttpReply::after_head_byte, crate::specs::Places::judged_place))]
     fn head_byte(&mut self, head: &[u8]) -> Part
         requires { self.old.stage ≡ Stage.Heads }
-        ensures place { place_of self.new (line_behind result head.now) [] ≡ after_head_byte self.old.limit self.old.passed head.now }
+        ensures place { place_of self.new (line_behind result head.now) []
+            ≡ after_head_byte self.old.limit self.old.passed head.now }
         ensures part { result ≢ Part.Body }
         ensures keeps { Keeps self.old self.new }
     {
@@ -177,17 +175,18 @@ impl State {
             self.head_end(head);
             return Part::Frame;
         }
-        if self.head_bytes(head) >= HEADS_LIMIT {
+        if self.head_bytes(head) >= HEADS_LIMIT as u128 {
             self.fail(ReplyFault::TooLong);
         }
         Part::Line
     }
 
-    #[tactic(auto, using(crate::proofs::BodyLemmas::one_longer))]
+    #[tactic(auto, using(std::proofs::lemmas::List::length_push))]
     fn sized_byte(&mut self, wanted: u64)
         requires sized { self.old.stage ≡ Stage.Sized wanted }
         requires room { self.old.count < 2 ^ 63 }
-        ensures place { (body : List ℕ) (b : ℕ) → place_of self.new [] (body ++ b ∷ []) ≡ after_byte self.old.limit (InSized wanted (gathered_of self.old body)) b }
+        ensures place { (body : List ℕ) (b : ℕ) → place_of self.new [] (body ++ b ∷ [])
+            ≡ after_byte self.old.limit (InSized wanted (gathered_of self.old body)) b }
         ensures count { self.new.count ≡ self.old.count + 1 }
         ensures limit { self.new.limit ≡ self.old.limit }
         ensures begins { self.new.begins ≡ self.old.begins }
@@ -203,16 +202,17 @@ impl State {
     /// Whether the body passes the limit.
     #[tactic(auto, unfolding(tpf_base::specs::HttpReply::is_over))]
     fn is_over(&self) -> bool
-        ensures { (body : List ℕ) → length body ≡ self.now.count → result ≡ is_over self.now.limit (gathered_of self.now body) }
+        ensures { (body : List ℕ) → length body ≡ self.now.count
+            → result ≡ is_over self.now.limit (gathered_of self.now body) }
     {
         self.count as u64 > self.limit
     }
 
-    #[tactic(auto, using(crate::proofs::BodyLemmas::one_longer))]
+    #[tactic(auto, using(std::proofs::lemmas::List::length_push))]
     fn unsized_byte(&mut self)
         requires unsized_ { self.old.stage ≡ Stage.Unsized }
         requires room { self.old.count < 2 ^ 63 }
-        ensures place { (body : List ℕ) (b : ℕ) → length body ≡ self.old.count → place_of self.new [] (body ++ b ∷ []) ≡ after_byte self.old.limit (InUnsized (gathered_of self.old body)) b }
+        ensures place { TakesByte self.old self.new InUnsized }
         ensures count { self.new.count ≡ self.old.count + 1 }
         ensures limit { self.new.limit ≡ self.old.limit }
         ensures begins { self.new.begins ≡ self.old.begins }
@@ -223,11 +223,11 @@ impl State {
         }
     }
 
-    #[tactic(auto, using(crate::proofs::BodyLemmas::one_longer))]
+    #[tactic(auto, using(std::proofs::lemmas::List::length_push))]
     fn chunk_byte(&mut self, wanted: u64)
         requires chunk { self.old.stage ≡ Stage.Chunk wanted }
         requires room { self.old.count < 2 ^ 63 }
-        ensures place { (body : List ℕ) (b : ℕ) → length body ≡ self.old.count → place_of self.new [] (body ++ b ∷ []) ≡ after_byte self.old.limit (InChunk wanted (gathered_of self.old body)) b }
+        ensures place { TakesByte self.old self.new (InChunk wanted) }
         ensures count { self.new.count ≡ self.old.count + 1 }
         ensures limit { self.new.limit ≡ self.old.limit }
         ensures begins { self.new.begins ≡ self.old.begins }
@@ -246,13 +246,15 @@ impl State {
     /// count stays.
     #[tactic(auto, unfolding(tpf_base::specs::HttpReply::is_padded))]
     fn count_extra(&mut self) -> bool
-        ensures padded { (body : List ℕ) → length body ≡ self.old.count → result ≡ is_padded (with_extra (gathered_of self.old body)) }
-        ensures counted { (body : List ℕ) → result ≡ false → gathered_of self.new body ≡ with_extra (gathered_of self.old body) }
+        ensures padded { (body : List ℕ) → length body ≡ self.old.count
+            → result ≡ is_padded (with_extra (gathered_of self.old body)) }
+        ensures counted { (body : List ℕ) → result ≡ false
+            → gathered_of self.new body ≡ with_extra (gathered_of self.old body) }
         ensures kept { (self.new.stage ≡ self.old.stage) × (self.new.passed ≡ self.old.passed) }
         ensures keeps { Keeps self.old self.new }
     {
         let extra = self.extra + 1;
-        if extra > 1048576 + 8 * (self.count as u128) {
+        if extra > PADDING_LIMIT as u128 + 8 * (self.count as u128) {
             return true;
         }
         self.extra = extra;
@@ -262,7 +264,9 @@ impl State {
     /// What becomes of a whole chunk line.
     #[tactic(auto, unfolding(tpf_base::specs::HttpReply::line_place))]
     fn line_end(&mut self, line: &[u8], padded: bool)
-        ensures place { (body : List ℕ) (g : Gathered) → is_padded g ≡ padded → (padded ≡ false → gathered_of self.old body ≡ g) → place_of self.new [] body ≡ line_place g (chunk_size line.now) }
+        ensures place { (body : List ℕ) (g : Gathered) → is_padded g ≡ padded
+            → (padded ≡ false → gathered_of self.old body ≡ g)
+            → place_of self.new [] body ≡ line_place g (chunk_size line.now) }
         ensures keeps { Keeps self.old self.new }
     {
         match chunk_size(line) {
@@ -285,7 +289,9 @@ impl State {
     #[tactic(auto, unfolding(tpf_base::specs::HttpReply::after_line_byte))]
     fn line_byte(&mut self, line: &[u8], b: u8) -> Part
         requires { self.old.stage ≡ Stage.Line }
-        ensures place { (body : List ℕ) → length body ≡ self.old.count → place_of self.new (line_behind result line.now) body ≡ after_line_byte line.now b (with_extra (gathered_of self.old body)) }
+        ensures place { (body : List ℕ) → length body ≡ self.old.count
+            → place_of self.new (line_behind result line.now) body
+            ≡ after_line_byte line.now b (with_extra (gathered_of self.old body)) }
         ensures part { result ≢ Part.Body }
         ensures keeps { Keeps self.old self.new }
     {
@@ -302,7 +308,7 @@ impl State {
     }
 
     fn return_byte(&mut self, b: u8)
-        ensures place { (body : List ℕ) → length body ≡ self.old.count → place_of self.new [] body ≡ after_byte self.old.limit (AtReturn (gathered_of self.old body)) b }
+        ensures place { PassesByte self.old self.new b AtReturn }
         ensures keeps { Keeps self.old self.new }
     {
         if b != b'\r' {
@@ -315,7 +321,7 @@ impl State {
     }
 
     fn newline_byte(&mut self, b: u8)
-        ensures place { (body : List ℕ) → length body ≡ self.old.count → place_of self.new [] body ≡ after_byte self.old.limit (AtNewline (gathered_of self.old body)) b }
+        ensures place { PassesByte self.old self.new b AtNewline }
         ensures keeps { Keeps self.old self.new }
     {
         if b != b'\n' {
@@ -331,10 +337,11 @@ impl State {
     #[tactic(auto, unfolding(tpf_base::specs::HttpReply::after_trailer_byte))]
     fn trailer_byte(&mut self, lines: &[u8])
         requires { self.old.stage ≡ Stage.Trailer }
-        ensures place { (body : List ℕ) → place_of self.new lines.now body ≡ after_trailer_byte lines.now (gathered_of self.old body) }
+        ensures place { (body : List ℕ) → place_of self.new lines.now body
+            ≡ after_trailer_byte lines.now (gathered_of self.old body) }
         ensures keeps { Keeps self.old self.new }
     {
-        if lines.len() as u128 > HEADS_LIMIT {
+        if lines.len() > HEADS_LIMIT {
             self.fail(ReplyFault::TooLong);
         } else if ends_trailer(lines) {
             self.stage = Stage::Finished;
@@ -344,7 +351,9 @@ impl State {
     /// Reads one more byte, which is the last of this much of a head or a line.
     fn byte(&mut self, line: &[u8], b: u8) -> Part
         requires room { self.old.count < 2 ^ 63 }
-        ensures place { (held body : List ℕ) → line.now ≡ held ++ b ∷ [] → length body ≡ self.old.count → place_of self.new (line_behind result line.now) (body_behind result body (b ∷ [])) ≡ after_byte self.old.limit (place_of self.old held body) b }
+        ensures place { (held body : List ℕ) → line.now ≡ held ++ b ∷ [] → length body ≡ self.old.count
+            → place_of self.new (line_behind result line.now) (body_behind result body (b ∷ []))
+            ≡ after_byte self.old.limit (place_of self.old held body) b }
         ensures count { self.new.count ≡ count_behind result self.old.count 1 }
         ensures limit { self.new.limit ≡ self.old.limit }
         ensures begins { self.new.begins ≡ self.old.begins }
@@ -404,7 +413,8 @@ impl State {
         requires some { 0 < n }
         requires room { n ≤ room_for self.old.limit self.old.stage self.old.count }
         requires fits { self.old.count + n < 2 ^ 63 }
-        ensures place { (line body run : List ℕ) → length body ≡ self.old.count → length run ≡ n → place_of self.new [] (body ++ run) ≡ with_run (place_of self.old line body) run }
+        ensures place { (line body run : List ℕ) → length body ≡ self.old.count → length run ≡ n
+            → place_of self.new [] (body ++ run) ≡ with_run (place_of self.old line body) run }
         ensures count { self.new.count ≡ self.old.count + n }
         ensures limit { self.new.limit ≡ self.old.limit }
         ensures begins { self.new.begins ≡ self.old.begins }
@@ -444,7 +454,7 @@ impl State {
         requires more { at < length bytes.now }
         requires begins { self.old.begins ≤ at }
         requires few { self.old.count ≤ self.old.begins }
-        requires goes_on { (passed : ℕ) (held : List ℕ) (g : Gathered) → is_open (place_for self.old.stage passed held g) ≡ true }
+        requires goes_on { IsOpenAt self.old.stage }
         ensures { ReadsTo self.old self.new bytes.now at result.0 result.1 }
     {
         let n = self.body_room().min((bytes.len() - at) as u64) as usize;

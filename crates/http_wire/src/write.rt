@@ -104,7 +104,8 @@ fn append_head(
     fields: &[Field],
     out: &mut Vec<u8>,
 ) -> Result<(), OutOfMemory>
-    ensures ok { OnOk result (out.new.items ≡ out.old.items ++ answer_head digits.now phrase.now (pairs_of fields.now)) }
+    ensures ok { OnOk result (out.new.items
+        ≡ out.old.items ++ answer_head digits.now phrase.now (pairs_of fields.now)) }
     ensures kept { take (length out.old.items) out.new.items ≡ out.old.items }
 {
     append_line(out, digits, phrase)?;
@@ -123,7 +124,8 @@ pub fn write_head(
     fields: &[Field],
     out: &mut Vec<u8>,
 ) -> Result<(), OutOfMemory>
-    ensures ok { OnOk result (out.new.items ≡ out.old.items ++ answer_head (code_digits status) (unwrap_or (reason_phrase status) []) (pairs_of fields.now)) }
+    ensures ok { OnOk result (out.new.items ≡ out.old.items
+        ++ answer_head (code_digits status) (unwrap_or (reason_phrase status) []) (pairs_of fields.now)) }
     ensures err { OnErr result (out.new.items ≡ out.old.items) }
 {
     let before = out.len();

@@ -1,13 +1,10 @@
-use Rattle.std.proofs.Common.{◌≡◌, ◌≤◌, ◌==◌, ◌∙◌, ℕ, Some, None, ap, arith, length, rules, tests, ltb, cond}
+use Rattle.std.proofs.Common.{◌==◌, ◌∙◌, ℕ, ap, length, rules, tests}
 use Rattle.std.specs.Prelude.{Option, unwrap_or}
-use Rattle.std.proofs.lemmas.Grind.{common_steps}
 use Rattle.std.proofs.lemmas.Iterator.{YieldsList-from_slice}
 use Rattle.std.proofs.lemmas.Iterator.Search.{position_from_yields_List}
+use Rattle.list_laws.proofs.Options.{place_or_length}
 use Rattle.http_wire.proofs.FieldLemmas.{place_within}
 use Rattle.http_wire.proofs.fields.first_place.Goals as goal
-
-place_or_length : (place n : ℕ) → place ≤ n → unwrap_or (cond (ltb place n) (Some place) None) n ≡ place
-place_or_length place n within = grind (arith, common_steps)
 
 pub returns-clause-is : goal.returns-clause-is
 returns-clause-is c =
