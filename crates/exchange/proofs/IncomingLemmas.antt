@@ -1,15 +1,17 @@
 -- What is read of the bytes that came, piece by piece.
-use Rattle.std.proofs.Common.{ℕ, ◌≡◌, ◌+◌, ◌*◌, ◌≤◌, ◌↔◌, ◌++◌, List, [], length, Option, Some, None, Bool, true, false, refl, sym, ◌∙◌, ap, arith, append-nil, length-append, subst, if◌then◌else◌}
+use Rattle.std.proofs.Common.{ℕ, ◌≡◌, ◌+◌, ◌≤◌, ◌↔◌, ◌++◌, List, [], length, Option, Some, None, Bool, true, false, refl, sym, ◌∙◌, ap, arith, append-nil, length-append, subst, if◌then◌else◌}
 use Rattle.tpf_base.specs.HttpReply as reply
 use Rattle.tpf_base.specs.HttpReply.{Place, InHeads, InSized, InUnsized, InLine, InChunk, AtReturn, AtNewline, InTrailer, Finished, Failed, Gathered, Reading, begun, is_open, after_bytes, reading_from, at_the_end, reply_of}
 use Rattle.http_wire.specs.Replies.{Feeding, starting, fed, shown, shown_fault, longer, reply_at, closed_at}
-use Rattle.http_wire.specs.Laws.{IsGiven, WhatIsReadIsGiven}
+use Rattle.http_wire.specs.Laws.{IsGiven, PlaceIsCut, ReadingIsCut, WantsBoundedBytes, WhatIsReadIsGiven}
 use Rattle.http_wire.specs.declared.message.Fed.{Fed}
 use Rattle.http_wire.specs.declared.message.Fed.TheVariants as feds
 use Rattle.http_wire.specs.declared.message.Reply.{Reply}
 use Rattle.http_wire.specs.declared.message.ReplyFault.{ReplyFault}
+use Rattle.exchange.specs.declared.buffer.TheConstants.{ROOM}
 use Rattle.exchange.specs.Incoming.{Coming, IsComing, none_yet, concluded}
 use Rattle.http_wire.proofs.KeepingLemmas.{KeepsNothing, bytes_keep_nothing}
+use Rattle.http_wire.proofs.RunLemmas.{given_is_closed}
 
 -- an open reply is not whole
 pub open_gives_none : (place : Place) → is_open place ≡ true → reply_at place ≡ None
@@ -23,19 +25,6 @@ open_gives_none (AtNewline g) o = refl
 open_gives_none (InTrailer lines g) o = refl
 open_gives_none (Finished g) o = cc
 open_gives_none (Failed fault) o = cc
-
--- a place with a reply is not open
-given_is_closed : (place : Place) (r : Reply) → reply_at place ≡ Some r → is_open place ≡ false
-given_is_closed (InHeads passed head) r e = cc
-given_is_closed (InSized wanted g) r e = cc
-given_is_closed (InUnsized g) r e = cc
-given_is_closed (InLine line g) r e = cc
-given_is_closed (InChunk wanted g) r e = cc
-given_is_closed (AtReturn g) r e = cc
-given_is_closed (AtNewline g) r e = cc
-given_is_closed (InTrailer lines g) r e = cc
-given_is_closed (Finished g) r e = refl
-given_is_closed (Failed fault) r e = refl
 
 -- a test that does not hold
 not_more : (b : Bool) (answer : Fed) → (b ≡ true ↔ answer ≡ feds.More) → (answer ≡ feds.More → ⊥) → b ≡ false
@@ -52,10 +41,6 @@ open_by place after limit piece (reply.Bad fault) g e p answer a b h =
     (ap is_open p ∙ ap is_open (g.bad fault e)) ∙ sym (not_more b answer h (λ m. cc))
 
 -- ---- what the bytes so far are
-
-abbrev pub CutsReading : Type 0
-CutsReading = (limit : ℕ) (place : Place) (xs ys : List ℕ) (at_end : Bool) → is_open (after_bytes limit place xs) ≡ true
-    → reading_from limit place (xs ++ ys) at_end ≡ longer (length xs) (reading_from limit (after_bytes limit place xs) ys at_end)
 
 none_some : {x : Reply} (o : Option Reply) → o ≡ None → o ≡ Some x → ⊥
 none_some o n s = cc
@@ -93,7 +78,7 @@ spare_by before len spare limit place piece answer g a s (reply.Whole body' used
 spare_by before len spare limit place piece answer g a s (reply.Bad fault) r body n keeps e = let f = ap (longer before) r in absurd (bad_whole _ f e)
 
 -- how many bytes stand behind a whole reply
-pub spare_is : (limit : ℕ) (before piece : List ℕ) (place : Place) (spare : ℕ) (answer : Fed) → CutsReading → WhatIsReadIsGiven
+pub spare_is : (limit : ℕ) (before piece : List ℕ) (place : Place) (spare : ℕ) (answer : Fed) → ReadingIsCut → WhatIsReadIsGiven
     → place ≡ after_bytes limit begun before → is_open place ≡ true → answer ≡ shown (reading_from limit place piece false)
     → ((used : ℕ) → answer ≡ feds.Done used → used ≤ length piece → used + spare ≡ length piece)
     → (body : List ℕ) (n : ℕ) (keeps : Bool) → reply_of (before ++ piece) false limit ≡ reply.Whole body n keeps → n + spare ≡ length before + length piece
@@ -108,18 +93,17 @@ unfolding after_bytes reading_from
 none_is limit = record { leads = refl; bound = omega arith; spare = λ body n keeps e. cc }
 
 -- one more piece
-pub read_is : (limit : ℕ) (before piece : List ℕ) (old new : Place) (old_spare spare : ℕ) (answer : Fed) → CutsReading → WhatIsReadIsGiven
-    → ((xs ys : List ℕ) → after_bytes limit begun (xs ++ ys) ≡ after_bytes limit (after_bytes limit begun xs) ys)
-    → ((bytes : List ℕ) → reply_of bytes false limit ≡ reply.More → length bytes ≤ 9 * limit + 1179648)
-    → IsComing (record { limit = limit; received = before; place = old; spare = old_spare }) → is_open old ≡ true → length piece ≤ 8192
+pub read_is : (limit : ℕ) (before piece : List ℕ) (old new : Place) (old_spare spare : ℕ) (answer : Fed) → ReadingIsCut → WhatIsReadIsGiven
+    → PlaceIsCut → WantsBoundedBytes
+    → IsComing (record { limit = limit; received = before; place = old; spare = old_spare }) → is_open old ≡ true → length piece ≤ ROOM
     → new ≡ after_bytes limit old piece → answer ≡ shown (reading_from limit old piece false)
     → ((used : ℕ) → answer ≡ feds.Done used → used ≤ length piece → used + spare ≡ length piece)
     → IsComing (record { limit = limit; received = before ++ piece; place = new; spare = spare })
 read_is limit before piece old new old_spare spare answer cuts given places few c o small p a s =
     let leads : old ≡ after_bytes limit begun before = c.leads in
-    let b = few before (open_reads_more given limit before (ap is_open (sym leads) ∙ o)) in
+    let b = few limit before false (open_reads_more given limit before (ap is_open (sym leads) ∙ o)) in
     record {
-      leads = p ∙ ap (λ q. after_bytes limit q piece) leads ∙ sym (places before piece);
+      leads = p ∙ ap (λ q. after_bytes limit q piece) leads ∙ sym (places limit begun before piece);
       bound = omega (arith, b, small, length-append before piece);
       spare = λ body n keeps e. spare_is limit before piece old spare answer cuts given leads o a s body n keeps e ∙ sym (length-append before piece);
     }
@@ -127,7 +111,7 @@ read_is limit before piece old new old_spare spare answer cuts given places few 
 -- ---- what the bytes come to
 
 -- an open reply at its end
-ends_open : (c : Coming) → IsComing c → CutsReading → is_open c.place ≡ true → concluded c ≡ longer (length c.received) (at_the_end true c.place)
+ends_open : (c : Coming) → IsComing c → ReadingIsCut → is_open c.place ≡ true → concluded c ≡ longer (length c.received) (at_the_end true c.place)
 unfolding reading_from
 ends_open c i cuts o =
     let at = cuts c.limit begun c.received [] true (ap is_open (sym i.leads) ∙ o) in
@@ -144,17 +128,16 @@ new_is limit f e = (ap (λ g. g.limit) e, coming_at limit f.received f.place (ap
 pub fed_received : (f f' : Feeding) (piece : List ℕ) → f' ≡ fed f piece → is_open f.place ≡ true → f'.received ≡ f.received ++ piece
 fed_received f f' piece e o = ap (λ g. g.received) e ∙ ap (λ (v : Bool). if v then f.received ++ piece else f.received) o
 
-pub read_whole : (limit : ℕ) (piece : List ℕ) (f f' : Feeding) (old_spare spare : ℕ) (answer : Fed) → CutsReading → WhatIsReadIsGiven
-    → ((limit : ℕ) (place : Place) (xs ys : List ℕ) → after_bytes limit place (xs ++ ys) ≡ after_bytes limit (after_bytes limit place xs) ys)
-    → ((limit : ℕ) (bytes : List ℕ) (at_end : Bool) → reply_of bytes at_end limit ≡ reply.More → length bytes ≤ 9 * limit + 1179648)
-    → f.limit ≡ limit → IsComing (record { limit = limit; received = f.received; place = f.place; spare = old_spare }) → is_open f.place ≡ true → length piece ≤ 8192
+pub read_whole : (limit : ℕ) (piece : List ℕ) (f f' : Feeding) (old_spare spare : ℕ) (answer : Fed) → ReadingIsCut → WhatIsReadIsGiven
+    → PlaceIsCut → WantsBoundedBytes
+    → f.limit ≡ limit → IsComing (record { limit = limit; received = f.received; place = f.place; spare = old_spare }) → is_open f.place ≡ true → length piece ≤ ROOM
     → f' ≡ fed f piece → answer ≡ shown (reading_from f.limit f.place piece false)
     → ((used : ℕ) → answer ≡ feds.Done used → used ≤ length piece → used + spare ≡ length piece)
     → (f'.limit ≡ limit) × IsComing (record { limit = limit; received = f'.received; place = f'.place; spare = spare })
 read_whole limit piece f f' old_spare spare answer cuts given places few l c o small p a s =
     let place : f'.place ≡ after_bytes limit f.place piece = ap (λ g. g.place) p ∙ ap (λ m. after_bytes m f.place piece) l in
     let received : f'.received ≡ f.received ++ piece = fed_received f f' piece p o in
-    let b = read_is limit f.received piece f.place f'.place old_spare spare answer cuts given (places limit begun) (λ bytes. few limit bytes false) c o small place
+    let b = read_is limit f.received piece f.place f'.place old_spare spare answer cuts given places few c o small place
     (a ∙ ap (λ m. shown (reading_from m f.place piece false)) l) s in
     (ap (λ g. g.limit) p ∙ l, rw received b)
 
@@ -211,12 +194,12 @@ closed_shown c (AtReturn g) p o given l = cc
 closed_shown c (AtNewline g) p o given l = cc
 closed_shown c (InTrailer lines g) p o given l = cc
 
-end_by : (c : Coming) → IsComing c → CutsReading → WhatIsReadIsGiven → (b : Bool) → is_open c.place ≡ b → IsShown c (concluded c) (shown (at_the_end true c.place))
+end_by : (c : Coming) → IsComing c → ReadingIsCut → WhatIsReadIsGiven → (b : Bool) → is_open c.place ≡ b → IsShown c (concluded c) (shown (at_the_end true c.place))
 end_by c i cuts given true o = rw (ends_open c i cuts o) (open_shown c (length c.received) c.place refl o)
 end_by c i cuts given false o = rw (ap (λ b. reply_of c.received b c.limit) o) (closed_shown c c.place refl o given i.leads)
 
 -- what the end of a feed answers is what the bytes come to
-pub end_is : (c : Coming) → IsComing c → CutsReading → WhatIsReadIsGiven → IsShown c (concluded c) (shown (at_the_end true c.place))
+pub end_is : (c : Coming) → IsComing c → ReadingIsCut → WhatIsReadIsGiven → IsShown c (concluded c) (shown (at_the_end true c.place))
 end_is c i cuts given = end_by c i cuts given _ refl
 
 shown_as : (c : Coming) (answer : Fed) → IsShown c (concluded c) (shown (at_the_end true c.place)) → answer ≡ shown (at_the_end true c.place) → IsShown c (concluded c) answer
@@ -225,15 +208,15 @@ shown_as c answer s e = rw e s
 some_is : (o : Option Reply) (x y : Reply) → o ≡ Some x → o ≡ Some y → x ≡ y
 some_is o x y p q = cc
 
-pub ends_more : (c : Coming) (place : Place) → IsComing c → CutsReading → WhatIsReadIsGiven → place ≡ c.place → feds.More ≡ shown (at_the_end true place)
+pub ends_more : (c : Coming) (place : Place) → IsComing c → ReadingIsCut → WhatIsReadIsGiven → place ≡ c.place → feds.More ≡ shown (at_the_end true place)
     → (concluded c ≡ reply.More) × (is_open c.place ≡ true)
 ends_more c place i cuts given p e = shown_as c feds.More (end_is c i cuts given) (e ∙ ap (λ q. shown (at_the_end true q)) p)
 
-pub ends_bad : (c : Coming) (place : Place) (fault : ReplyFault) → IsComing c → CutsReading → WhatIsReadIsGiven → place ≡ c.place → feds.Bad fault ≡ shown (at_the_end true place)
+pub ends_bad : (c : Coming) (place : Place) (fault : ReplyFault) → IsComing c → ReadingIsCut → WhatIsReadIsGiven → place ≡ c.place → feds.Bad fault ≡ shown (at_the_end true place)
     → (why : reply.ReplyFault) × (fault ≡ shown_fault why) × (concluded c ≡ reply.Bad why) × (is_open c.place ≡ false)
 ends_bad c place fault i cuts given p e = shown_as c (feds.Bad fault) (end_is c i cuts given) (e ∙ ap (λ q. shown (at_the_end true q)) p)
 
-pub ends_whole : (c : Coming) (place : Place) (used : ℕ) (answer : Reply) → IsComing c → CutsReading → WhatIsReadIsGiven → place ≡ c.place → feds.Done used ≡ shown (at_the_end true place)
+pub ends_whole : (c : Coming) (place : Place) (used : ℕ) (answer : Reply) → IsComing c → ReadingIsCut → WhatIsReadIsGiven → place ≡ c.place → feds.Done used ≡ shown (at_the_end true place)
     → reply_at (closed_at place) ≡ Some answer → (n : ℕ) × (concluded c ≡ reply.Whole answer.body n answer.keeps)
 ends_whole c place used answer i cuts given p e t =
     let s = shown_as c (feds.Done used) (end_is c i cuts given) (e ∙ ap (λ q. shown (at_the_end true q)) p) in
@@ -241,12 +224,12 @@ ends_whole c place used answer i cuts given p e t =
     (s.1, s.3 ∙ ap (λ r. reply.Whole r.body s.1 r.keeps) same)
 
 -- the same where the bytes are seen by another name
-pub cut_of : (v w : Coming) (kept : List ℕ) → v ≡ w → IsComing v → CutsReading → WhatIsReadIsGiven → feds.More ≡ shown (at_the_end true v.place) → kept ≡ v.received
+pub cut_of : (v w : Coming) (kept : List ℕ) → v ≡ w → IsComing v → ReadingIsCut → WhatIsReadIsGiven → feds.More ≡ shown (at_the_end true v.place) → kept ≡ v.received
     → (concluded w ≡ reply.More) × (kept ≡ w.received) × (is_open w.place ≡ true)
 cut_of v w kept e i cuts given a k = let m = ends_more v v.place i cuts given refl a in
     (ap concluded (sym e) ∙ m.0, k ∙ ap (λ c. c.received) e, ap (λ c. is_open c.place) (sym e) ∙ m.1)
 
-pub refused_of : (v w : Coming) (kept : List ℕ) (fault : ReplyFault) → v ≡ w → IsComing v → CutsReading → WhatIsReadIsGiven → feds.Bad fault ≡ shown (at_the_end true v.place) → kept ≡ v.received
+pub refused_of : (v w : Coming) (kept : List ℕ) (fault : ReplyFault) → v ≡ w → IsComing v → ReadingIsCut → WhatIsReadIsGiven → feds.Bad fault ≡ shown (at_the_end true v.place) → kept ≡ v.received
     → (why : reply.ReplyFault) × (fault ≡ shown_fault why) × (concluded w ≡ reply.Bad why) × (kept ≡ w.received) × (is_open w.place ≡ false)
 refused_of v w kept fault e i cuts given a k = let m = ends_bad v v.place fault i cuts given refl a in
     (m.0, m.1, ap concluded (sym e) ∙ m.2, k ∙ ap (λ c. c.received) e, ap (λ c. is_open c.place) (sym e) ∙ m.3)
@@ -265,11 +248,11 @@ open_keeps len (InTrailer lines g) body n keeps o none e = cc
 open_keeps len (Finished g) body n keeps o none e = cc
 open_keeps len (Failed fault) body n keeps o none e = cc
 
-ends_keeps : (c : Coming) (body : List ℕ) (n : ℕ) (keeps : Bool) → IsComing c → CutsReading → concluded c ≡ reply.Whole body n keeps → is_open c.place ≡ true → keeps ≡ false
+ends_keeps : (c : Coming) (body : List ℕ) (n : ℕ) (keeps : Bool) → IsComing c → ReadingIsCut → concluded c ≡ reply.Whole body n keeps → is_open c.place ≡ true → keeps ≡ false
 ends_keeps c body n keeps i cuts e o =
     open_keeps (length c.received) c.place body n keeps o (subst KeepsNothing (sym i.leads) (bytes_keep_nothing c.limit c.received)) (sym (ends_open c i cuts o) ∙ e)
 
-pub whole_of : (v w : Coming) (used : ℕ) (answer : Reply) (place : Place) → v ≡ w → IsComing v → CutsReading → WhatIsReadIsGiven → feds.Done used ≡ shown (at_the_end true v.place)
+pub whole_of : (v w : Coming) (used : ℕ) (answer : Reply) (place : Place) → v ≡ w → IsComing v → ReadingIsCut → WhatIsReadIsGiven → feds.Done used ≡ shown (at_the_end true v.place)
     → place ≡ closed_at v.place → Some answer ≡ reply_at place → (n : ℕ) × (concluded w ≡ reply.Whole answer.body n answer.keeps) × (is_open w.place ≡ true → answer.keeps ≡ false)
 whole_of v w used answer place e i cuts given a p t = let m = ends_whole v v.place used answer i cuts given refl a (ap reply_at (sym p) ∙ sym t) in (
   m.0,

@@ -25,7 +25,7 @@ use Rattle.exchange.specs.declared.exchange.Standing.TheVariants.{Underway, Left
 use Rattle.exchange.specs.declared.fault.ExchangeFault.{ExchangeFault}
 use Rattle.exchange.specs.declared.fault.ExchangeFault.TheVariants as faults
 use Rattle.exchange.proofs.IncomingLemmas.{open_reads_more}
-use Rattle.exchange.proofs.ReceivingLemmas.{moved_or}
+use Rattle.list_laws.proofs.Tests.{moved_or}
 
 -- ---- what was so before goes on
 

@@ -6,7 +6,8 @@ use Rattle.tpf_base.specs.declared.wire.Moved.TheVariants as answers
 use Rattle.tpf_base.specs.Links.{Receiving, WireState, Tells, CountsAlone, SentAndReceived, All, told_by, is_short, some_left}
 use Rattle.tpf_base.specs.Calls.{Receives}
 use Rattle.tpf_base.specs.Sending.{Holds, CallsOn}
-use Rattle.tpf_base.proofs.SendingLemmas.{calls_then, holds_append, holds_same, rose_on}
+use Rattle.list_laws.proofs.Tests.{moved_or}
+use Rattle.tpf_base.proofs.SendingLemmas.{calls_then, holds_append, holds_by, holds_same, rose_on}
 use Rattle.exchange.specs.Incoming.{Coming}
 use Rattle.exchange.specs.Receiving.{ReceivesFrom}
 
@@ -34,9 +35,6 @@ behind r x y = rw (append-nil x, append-nil (x ++ y), append_assoc r x y) refl
 
 behind_lost : (r x y : List ℕ) → (r ++ (x ++ [])) ++ y ≡ r ++ (x ++ y)
 behind_lost r x y = rw (append-nil x, append_assoc r x y) refl
-
-holds_by : (told : Option (List ℕ)) (x y : List ℕ) → x ≡ y → Holds told x → Holds told y
-holds_by told x y e h = λ bytes b. h bytes b ∙ e
 
 pub received_more : (k n : ℕ) (to : List ℕ) (from mid now : Coming) (a b c : WireState) → ReceivesFrom k from mid [] a b → Receives k to b c (answers.Moved n)
     → now.received ≡ mid.received ++ take n to → now.limit ≡ mid.limit → ReceivesFrom k from now [] a c
@@ -90,9 +88,6 @@ receive_not_due k to a b c p s st e t = (s.not_due (ap (λ n. n.steady) p.only.n
 
 pub failed_rose : (k : ℕ) (to : List ℕ) (a b c : WireState) → CallsOn k a b → Receives k to b c answers.Failed → Rose a.faults c.faults
 failed_rose k to a b c p s = rose_on _ _ _ p.only.later (s.failed refl).3
-
-pub moved_or : (to from : ℕ) → from ≤ to → (from < to) ⊎ (to ≡ from)
-moved_or to from h = grind arith
 
 -- where a wait woke the link, its first receive moved a byte
 pub woken_received : (k : ℕ) (to : List ℕ) (from mid : ℕ) (a b c : WireState) → from ≤ mid → (from < mid → b.idle ≡ 0)

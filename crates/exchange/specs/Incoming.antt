@@ -3,6 +3,8 @@ use Rattle.std.specs.Prelude.{ℕ, ◌≡◌, ◌+◌, ◌*◌, ◌≤◌, Bool,
 use Rattle.tpf_base.specs.HttpReply as reply
 use Rattle.tpf_base.specs.HttpReply.{Place, Reading, begun, is_open, after_bytes, reply_of}
 use Rattle.http_wire.specs.Replies.{shown_fault}
+use Rattle.http_wire.specs.Laws.{most_beside}
+use Rattle.exchange.specs.declared.buffer.TheConstants.{ROOM}
 use Rattle.exchange.specs.declared.incoming.Conclusion.{Conclusion}
 use Rattle.exchange.specs.declared.incoming.Conclusion.TheVariants.{Whole, Cut, Refused}
 
@@ -21,10 +23,14 @@ none_yet limit = record { limit = limit; received = []; place = begun; spare = 0
 abbrev pub IsBehind : ℕ → List ℕ → ℕ → Type 0
 IsBehind limit received spare = (body : List ℕ) (n : ℕ) (keeps : Bool) → reply_of received false limit ≡ reply.Whole body n keeps → n + spare ≡ length received
 
+-- the most bytes that are held where the body may have so many: nine for each of these, what a reply may have beside, and one receive
+abbrev pub most_kept : ℕ → ℕ
+most_kept limit = 9 * limit + (most_beside + ROOM)
+
 -- The place is that of the bytes, and they are not too many.
 pub record IsComing (c : Coming) : Type 0 where
   pub leads : c.place ≡ after_bytes c.limit begun c.received
-  pub bound : length c.received ≤ 9 * c.limit + 1187840
+  pub bound : length c.received ≤ most_kept c.limit
   pub spare : IsBehind c.limit c.received c.spare
 
 -- the reading where no more is received: an open reply is at its end

@@ -1,9 +1,10 @@
 // One request and its reply.
-ghost use Rattle.std.specs.Prelude.{◌≡◌, ◌+◌, ◌*◌, ◌≤◌, ◌==◌, ◌&&◌, [], length, true, false, Some, IfOk, IfErr, Err, if◌then◌else◌};
+ghost use Rattle.std.specs.Prelude.{◌≡◌, ◌≤◌, ◌==◌, ◌&&◌, [], length, true, false, Some, IfOk, IfErr, Err, if◌then◌else◌};
 ghost use Rattle.tpf_base.specs.HttpReply.{is_open, begun, after_bytes};
 ghost use Rattle.tpf_base.specs.Links.{SameAllowed};
 ghost use Rattle.tpf_base.specs.Calls.{Closes};
 ghost use Rattle.exchange.specs.Exchanges.{starting, left_link, IsLinked, request_of};
+ghost use Rattle.exchange.specs.Incoming.{most_kept};
 ghost use Rattle.exchange.specs.Polls.{Touches, Answers, HandsOver};
 ghost use Rattle.exchange.specs.Parts.{Leads, TouchesLink, IsUndialled, Concludes};
 
@@ -12,7 +13,7 @@ use crate::fault::ExchangeFault;
 use crate::incoming::{Conclusion, Incoming};
 use crate::receiving::{Received, receive};
 use futures::task::Poll;
-use http_wire::{Reply, what_is_read_is_given, write_request};
+use http_wire::{Reply, laws, write_request};
 use std::alloc::Global;
 use std::marker::Model;
 use std::mem;
@@ -109,11 +110,12 @@ impl Exchange {
     }
 
     /// How many bytes of the reply are held as they were received: at most nine for each byte of the
-    /// limit, and 1187840 more, which are the limits of heads, of the lines behind the last chunk and of
-    /// the lines of chunks, and one receive.
+    /// limit, and 1187840 more, which are the limits of heads and of the lines behind the last chunk
+    /// (`HEADS_LIMIT` of `tpf_base` each), of the lines of chunks (`PADDING_LIMIT`), and one receive
+    /// (`ROOM`).
     pub fn kept(&self) -> u64
         ensures length { result ≡ length self.now.received }
-        ensures bound { result ≤ 9 * self.now.limit + 1187840 }
+        ensures bound { result ≤ most_kept self.now.limit }
     {
         self.incoming.kept() as u64
     }
@@ -159,7 +161,7 @@ impl Exchange {
         ensures allowed { SameAllowed (W.allows wire.old) (W.allows wire.new) }
     {
         self.incoming.leads();
-        what_is_read_is_given();
+        laws::what_is_read_is_given();
         match self.own_link(wire) {
             Ok(link) => self.send(wire, buffer, link),
             Err(fault) => {
@@ -207,7 +209,7 @@ impl Exchange {
         ensures allowed { SameAllowed (W.allows wire.old) (W.allows wire.new) }
     {
         self.incoming.leads();
-        what_is_read_is_given();
+        laws::what_is_read_is_given();
         match send_rest(wire, link, self.request.as_slice(), &mut self.sent) {
             Halt::Done => self.receive_reply(wire, buffer, link),
             Halt::NotYet => Poll::Pending,
@@ -234,7 +236,7 @@ impl Exchange {
     {
         let received = receive(wire, link, buffer.bytes.as_mut_slice(), &mut self.incoming);
         self.incoming.leads();
-        what_is_read_is_given();
+        laws::what_is_read_is_given();
         match received {
             Received::Read => {
                 self.standing = Standing::Over;

@@ -1,12 +1,10 @@
 // The bytes that come in reply to a request.
-ghost use Rattle.std.specs.Prelude.{ℕ, ◌≡◌, ◌+◌, ◌*◌, ◌≤◌, ◌↔◌, ◌++◌, length, true, IfOk, OnOk, OnErr};
+ghost use Rattle.std.specs.Prelude.{ℕ, ◌≡◌, ◌+◌, ◌≤◌, ◌↔◌, ◌++◌, length, true, IfOk, OnOk, OnErr};
 ghost use Rattle.tpf_base.specs.HttpReply.{is_open, begun, after_bytes, Whole};
-ghost use Rattle.exchange.specs.Incoming.{Coming, none_yet, IsBehind, IsConclusion};
+ghost use Rattle.exchange.specs.declared.buffer.TheConstants.{ROOM};
+ghost use Rattle.exchange.specs.Incoming.{Coming, none_yet, most_kept, IsBehind, IsConclusion};
 
-use http_wire::{
-    Fed, Reply, ReplyFault, ReplyFeed, a_reply_is_bounded, cuts_do_not_matter,
-    what_is_read_is_given,
-};
+use http_wire::{Fed, Reply, ReplyFault, ReplyFeed, laws};
 use std::alloc::Global;
 use std::marker::Model;
 use tpf_base::{Bytes, OutOfMemory};
@@ -97,7 +95,7 @@ impl Incoming {
     /// How many bytes came.
     pub(crate) fn kept(&self) -> usize
         ensures length { result ≡ length self.now.received }
-        ensures bound { result ≤ 9 * self.now.limit + 1187840 }
+        ensures bound { result ≤ most_kept self.now.limit }
     {
         self.feed.received().len()
     }
@@ -105,16 +103,16 @@ impl Incoming {
     /// Reads the next bytes, and says whether the reply goes on. After a refusal all is as it was.
     pub(crate) fn read(&mut self, piece: &[u8]) -> Result<bool, OutOfMemory>
         requires goes_on { is_open self.old.place ≡ true }
-        requires few { length piece.now ≤ 8192 }
+        requires few { length piece.now ≤ ROOM }
         ensures received { OnOk result (self.new.received ≡ self.old.received ++ piece.now) }
         ensures limit { self.new.limit ≡ self.old.limit }
         ensures goes_on { IfOk result (λ goes_on. is_open self.new.place ≡ goes_on) }
-        ensures bound { OnOk result (length self.new.received ≤ 9 * self.new.limit + 1187840) }
+        ensures bound { OnOk result (length self.new.received ≤ most_kept self.new.limit) }
         ensures err { OnErr result (self.new ≡ self.old) }
     {
-        cuts_do_not_matter();
-        what_is_read_is_given();
-        a_reply_is_bounded();
+        laws::cuts_do_not_matter();
+        laws::what_is_read_is_given();
+        laws::a_reply_is_bounded();
         let fed = self.feed.feed(piece)?;
         self.spare = spare_of(fed, piece.len());
         Ok(goes_on(fed))
@@ -124,8 +122,8 @@ impl Incoming {
     pub(crate) fn conclude(self) -> Conclusion
         ensures { IsConclusion self result }
     {
-        cuts_do_not_matter();
-        what_is_read_is_given();
+        laws::cuts_do_not_matter();
+        laws::what_is_read_is_given();
         let mut feed = self.feed;
         match feed.end() {
             Fed::More => Conclusion::Cut(feed.into_received()),

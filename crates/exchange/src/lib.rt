@@ -20,6 +20,6 @@ mod fault;
 mod incoming;
 mod receiving;
 
-pub use buffer::ReceiveBuffer;
+pub use buffer::{ROOM, ReceiveBuffer};
 pub use exchange::Exchange;
 pub use fault::ExchangeFault;

@@ -2,6 +2,7 @@
 ghost use Rattle.std.specs.Prelude.{◌≡◌, ◌<◌, ◌≤◌, length, true};
 ghost use Rattle.tpf_base.specs.HttpReply.{is_open};
 ghost use Rattle.tpf_base.specs.Links.{SameAllowed};
+ghost use Rattle.exchange.specs.declared.buffer.TheConstants.{ROOM};
 ghost use Rattle.exchange.specs.Receiving.{ReceivesUpTo, ReceivingEnds};
 
 use crate::incoming::Incoming;
@@ -31,7 +32,7 @@ pub(crate) fn receive<W: Wire>(
 ) -> Received
     requires is_open { ((W.state wire.old).links link).is_open ≡ true }
     requires room { 0 < length piece.old }
-    requires few { length piece.old ≤ 8192 }
+    requires few { length piece.old ≤ ROOM }
     requires goes_on { is_open incoming.old.place ≡ true }
     ensures receives { ReceivesUpTo result link incoming.old incoming.new (W.state wire.old) (W.state wire.new) }
     ensures end_ { ReceivingEnds result link incoming.new (W.state wire.old) (W.state wire.new) }

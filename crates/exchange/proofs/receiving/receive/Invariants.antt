@@ -1,7 +1,8 @@
 -- Each byte that came is read; where none came, the wire is as it was.
-use Rattle.std.proofs.Common.{◌≡◌, ◌+◌, ◌-◌, ◌*◌, ◌<◌, ◌≤◌, [], length, true}
+use Rattle.std.proofs.Common.{◌≡◌, ◌+◌, ◌-◌, ◌<◌, ◌≤◌, [], length, true}
 use Rattle.tpf_base.specs.HttpReply.{is_open}
 use Rattle.tpf_base.specs.Links.{SameAllowed}
+use Rattle.exchange.specs.Incoming.{most_kept}
 use Rattle.exchange.specs.Receiving.{ReceivesFrom}
 use Rattle.exchange.proofs.receiving.receive.Given as goal
 
@@ -16,4 +17,4 @@ invariant-loop-n g l = record {
 }
 
 abbrev pub decreases-loop-n : goal.decreases-loop-n
-decreases-loop-n g l = (9 * l.incoming.limit + 1187841) - length l.incoming.received
+decreases-loop-n g l = (most_kept l.incoming.limit + 1) - length l.incoming.received
