@@ -4,12 +4,12 @@ use Rattle.std.specs.declared.cmp.Ordering.TheVariants.{Less}
 use Rattle.std.specs.Ordering.{is_eq}
 use Rattle.std.specs.List.{AllByRecursion, list_any}
 use Rattle.std.specs.List.Sorted.{IsStrictlySortedBy}
+use Rattle.list_laws.proofs.Lists.{any_snoc}
 use Rattle.rdf_terms.specs.Same.{triple_eq}
 use Rattle.rdf_terms.specs.Order.{triple_order}
 use Rattle.rdf_terms.specs.OrderLaws.{triple_ties}
 use Rattle.rdf_terms.specs.declared.term.Triple.{Triple}
 use Rattle.bgp_core.specs.Solutions.{unless_before, distinct_after}
-use Rattle.bgp_core.proofs.Firsts.{any_of}
 
 less_differ : (s t : Triple) → triple_order s t ≡ Less → triple_eq s t ≡ false
 less_differ s t e = triple_ties s t ∙ ap is_eq e
@@ -17,7 +17,7 @@ less_differ s t e = triple_ties s t ∙ ap is_eq e
 none_more : (before ts : List Triple) (t : Triple) → AllByRecursion (λ y. list_any (λ s. triple_eq s y) before ≡ false) ts → AllByRecursion (λ y. triple_order t y ≡ Less) ts → AllByRecursion (λ y. list_any (λ s. triple_eq s y) (before ++ t ∷ []) ≡ false) ts
 none_more before [] t h a = tt
 none_more before (y ∷ ts) t (h, hs) (a, rest) =
-    (any_of (λ s. triple_eq s y) before t ∙ rw (less_differ t y a, h) refl, none_more before ts t hs rest)
+    (any_snoc (λ s. triple_eq s y) before t ∙ rw (less_differ t y a, h) refl, none_more before ts t hs rest)
 
 alone : (before : List Triple) (t : Triple) → list_any (λ s. triple_eq s t) before ≡ false → unless_before before t ≡ t ∷ []
 alone before t h = rw h refl

@@ -1,51 +1,17 @@
 -- What binding a part does to a row.
-use Rattle.std.proofs.Common.{ℕ, zero, suc, ◌≡◌, ◌<◌, ◌⊎◌, inl, inr, Bool, if◌then◌else◌, true, false, [], ◌∷◌, length, Option, Some, None, slice_get, slice_set, ◌&&◌, refl, ap, sym, subst, ◌∙◌, arith}
+use Rattle.std.proofs.Common.{ℕ, zero, suc, ◌≡◌, ◌<◌, ◌⊎◌, inl, inr, Bool, if◌then◌else◌, true, false, [], ◌∷◌, length, Option, Some, None, slice_get, slice_set, refl, ap, sym, subst, ◌∙◌, arith}
 use Rattle.std.proofs.Math.ListN.{length-set}
-use Rattle.std.specs.Str.{bytes_eq}
-use Rattle.std.proofs.lemmas.Slice.Eq.{bytes_eq-Decides}
 use Rattle.std.proofs.lemmas.Bool.{cases_eq}
-use Rattle.rdf_terms.specs.Same.{term_eq, kind_eq}
-use Rattle.rdf_terms.specs.declared.term.Kind.{Kind}
-use Rattle.rdf_terms.specs.declared.term.Kind.TheVariants.{Plain, Typed, Tagged}
+use Rattle.rdf_terms.specs.Same.{term_eq}
 use Rattle.rdf_terms.specs.declared.term.Term.{Term}
-use Rattle.rdf_terms.specs.declared.term.Term.TheVariants.{Iri, Blank, Literal}
 use Rattle.rdf_terms.specs.declared.term.Triple.{Triple}
+use Rattle.rdf_terms.proofs.Equality.{term_same, term_self}
 use Rattle.bgp_core.specs.declared.pattern.Part.{Part}
 use Rattle.bgp_core.specs.declared.pattern.Part.TheVariants.{Fixed, Name}
 use Rattle.bgp_core.specs.declared.pattern.Pattern.{Pattern}
 use Rattle.bgp_core.specs.Solutions.{Places, put, bind, extended, extension}
 use Rattle.bgp_core.specs.Queries.{HasPlaceFor, HasPlacesFor}
 use Rattle.bgp_core.specs.Extends.{Becomes, IsNameOf, Grows, Extends}
-
-both : (a b : Bool) → (a && b) ≡ true → (a ≡ true) × (b ≡ true)
-both true b e = (refl, e)
-both false b e = cc
-
-kind-same : (a b : Kind) → kind_eq a b ≡ true → a ≡ b
-kind-same Plain Plain e = refl
-kind-same (Typed a) (Typed b) e = ap Typed ((bytes_eq-Decides a b).0 e)
-kind-same (Tagged a) (Tagged b) e = ap Tagged ((bytes_eq-Decides a b).0 e)
-kind-same Plain (Typed b) e = cc
-kind-same Plain (Tagged b) e = cc
-kind-same (Typed a) Plain e = cc
-kind-same (Typed a) (Tagged b) e = cc
-kind-same (Tagged a) Plain e = cc
-kind-same (Tagged a) (Typed b) e = cc
-
-pub term-same : (a b : Term) → term_eq a b ≡ true → a ≡ b
-term-same (Iri a) (Iri b) e = ap Iri ((bytes_eq-Decides a b).0 e)
-term-same (Blank a) (Blank b) e = ap Blank ((bytes_eq-Decides a b).0 e)
-term-same (Literal a k) (Literal b l) e =
-    let p = both (bytes_eq a b) (kind_eq k l) e in
-    let forms : a ≡ b = (bytes_eq-Decides a b).0 p.0 in
-    let kinds : k ≡ l = kind-same k l p.1 in
-    cc
-term-same (Iri a) (Blank b) e = cc
-term-same (Iri a) (Literal b l) e = cc
-term-same (Blank a) (Iri b) e = cc
-term-same (Blank a) (Literal b l) e = cc
-term-same (Literal a k) (Iri b) e = cc
-term-same (Literal a k) (Blank b) e = cc
 
 pub get-set : (row : Places) (n : ℕ) (x y : Option Term) → slice_get row n ≡ Some x → slice_get (slice_set row n y) n ≡ Some y
 get-set [] n x y h = cc
@@ -83,14 +49,14 @@ put-some (Some None) n t row new at e =
     subst (λ (r : Places). (slice_get r n ≡ Some (Some t)) × Grows (λ k. n ≡ k) row r) is (get-set row n None (Some t) at, filled row n t at)
 put-some (Some (Some u)) n t row new at e =
     let c = chosen (term_eq u t) row new e in
-    let same : u ≡ t = term-same u t c.0 in
+    let same : u ≡ t = term_same u t c.0 in
     let here : slice_get row n ≡ Some (Some t) = at ∙ ap (λ (x : Term). let y : Option (Option Term) = Some (Some x) in y) same in
     subst (λ (r : Places). (slice_get r n ≡ Some (Some t)) × Grows (λ k. n ≡ k) row r) c.1 (here, stays _ row)
 
 pub bind-some : (p : Part) (t : Term) (row new : Places) → bind p t row ≡ Some new → Becomes new p t × Grows (λ k. IsNameOf k p) row new
 bind-some (Fixed u) t row new e =
     let c = chosen (term_eq u t) row new e in
-    subst (λ (r : Places). (u ≡ t) × Grows (λ k. ⊥) row r) c.1 (term-same u t c.0, stays _ row)
+    subst (λ (r : Places). (u ≡ t) × Grows (λ k. ⊥) row r) c.1 (term_same u t c.0, stays _ row)
 bind-some (Name n) t row new e = put-some (slice_get row n) n t row new refl e
 
 -- ---- the whole pattern
@@ -125,16 +91,6 @@ extension-some p row t new e =
       };
     }
 
-kind-self : (k : Kind) → kind_eq k k ≡ true
-kind-self Plain = refl
-kind-self (Typed d) = (bytes_eq-Decides d d).1 refl
-kind-self (Tagged t) = (bytes_eq-Decides t t).1 refl
-
-pub term-self : (t : Term) → term_eq t t ≡ true
-term-self (Iri a) = (bytes_eq-Decides a a).1 refl
-term-self (Blank a) = (bytes_eq-Decides a a).1 refl
-term-self (Literal a k) = rw ((bytes_eq-Decides a a).1 refl, kind-self k) refl
-
 no_place : (row : Places) (n : ℕ) → n < length row → slice_get row n ≡ None → ⊥
 no_place [] n h e = omega arith
 no_place (p ∷ row) zero h e = cc
@@ -155,13 +111,13 @@ put-at (Some None) n t row final at h b keeps = (
 put-at (Some (Some u)) n t row final at h b keeps =
     let there : slice_get final n ≡ Some (Some u) = keeps n u at in
     let same : u ≡ t = cc in
-    let passes : term_eq u t ≡ true = subst (λ (x : Term). term_eq u x ≡ true) same (term-self u) in
+    let passes : term_eq u t ≡ true = subst (λ (x : Term). term_eq u x ≡ true) same (term_self u) in
     (row, rw passes refl, keeps)
 
 pub bind-at : (p : Part) (t : Term) (row final : Places) → HasPlaceFor (length row) p → Becomes final p t → ((k : ℕ) (u : Term) → slice_get row k ≡ Some (Some u) → slice_get final k ≡ Some (Some u)) →
     (mid : Places) × (bind p t row ≡ Some mid) × ((k : ℕ) (u : Term) → slice_get mid k ≡ Some (Some u) → slice_get final k ≡ Some (Some u))
 bind-at (Fixed u) t row final h b keeps =
-    let passes : term_eq u t ≡ true = subst (λ (x : Term). term_eq u x ≡ true) b (term-self u) in
+    let passes : term_eq u t ≡ true = subst (λ (x : Term). term_eq u x ≡ true) b (term_self u) in
     (row, rw passes refl, keeps)
 bind-at (Name n) t row final h b keeps = put-at (slice_get row n) n t row final refl h b keeps
 

@@ -3,6 +3,7 @@ use Rattle.std.proofs.Common.{ℕ, suc, ◌≡◌, ◌+◌, ◌<◌, Bool, true,
 use Rattle.std.proofs.Math.Seq.{drop-cons, take-suc}
 use Rattle.std.specs.List.{list_any}
 use Rattle.std.specs.Ordering.{is_eq}
+use Rattle.list_laws.proofs.Lists.{any_snoc}
 use Rattle.rdf_terms.specs.Same.{triple_eq}
 use Rattle.rdf_terms.specs.Order.{triple_order}
 use Rattle.rdf_terms.specs.OrderLaws.{triple_ties}
@@ -18,20 +19,11 @@ key_added new old key q e = e ∙ ap (λ b. cond b true old) (sym (triple_ties k
     either true b = refl
     either false b = refl
 
-pub any_of : (p : Triple → Bool) (xs : List Triple) (t : Triple) → list_any p (xs ++ t ∷ []) ≡ (p t || list_any p xs)
-any_of p [] t = refl
-any_of p (x ∷ xs) t = ap (λ b. p x || b) (any_of p xs t) ∙ turned (p x) (p t) (list_any p xs)
-  where
-    turned : (a b c : Bool) → (a || (b || c)) ≡ (b || (a || c))
-    turned true true c = refl
-    turned true false c = refl
-    turned false b c = refl
-
 -- what was seen, after one triple more
 pub seen_step : (all : List Triple) (i : ℕ) (t q : Triple) (new old : Bool) → i < length all → t ≡ get_or all i t → old ≡ list_any (λ s. triple_eq s q) (take i all) → new ≡ (triple_eq t q || old) → new ≡ list_any (λ s. triple_eq s q) (take (i + 1) all)
 seen_step all i t q new old below at before e =
     let front : take (suc i) all ≡ take i all ++ t ∷ [] = take-suc all i t below ∙ ap (λ (x : Triple). take i all ++ x ∷ []) (sym at) in
-    e ∙ ap (λ b. triple_eq t q || b) before ∙ sym (any_of (λ s. triple_eq s q) (take i all) t) ∙ ap (λ (l : List Triple). list_any (λ s. triple_eq s q) l) (sym (rw add-one front))
+    e ∙ ap (λ b. triple_eq t q || b) before ∙ sym (any_snoc (λ s. triple_eq s q) (take i all) t) ∙ ap (λ (l : List Triple). list_any (λ s. triple_eq s q) l) (sym (rw add-one front))
 
 pub distinct_after_step : (all once once' : List Triple) (i : ℕ) (t : Triple) (stands : Bool) → i < length all → t ≡ get_or all i t → stands ≡ list_any (λ s. triple_eq s t) (take i all) → once' ≡ once ++ once_more stands t → (whole : List Triple) → whole ≡ once ++ distinct_after (take i all) (drop i all) → whole ≡ once' ++ distinct_after (take (i + 1) all) (drop (i + 1) all)
 distinct_after_step all once once' i t stands below at known added whole e =

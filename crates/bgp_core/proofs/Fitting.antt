@@ -3,16 +3,14 @@ use Rattle.std.proofs.Common.{ℕ, ◌≡◌, Bool, true, false, not, nat_eq, �
 use Rattle.rdf_terms.specs.Same.{term_eq}
 use Rattle.rdf_terms.specs.declared.term.Term.{Term}
 use Rattle.rdf_terms.specs.declared.term.Triple.{Triple}
+use Rattle.rdf_terms.proofs.Equality.{same_passes}
 use Rattle.bgp_core.specs.declared.pattern.Part.{Part}
 use Rattle.bgp_core.specs.declared.pattern.Part.TheVariants.{Fixed, Name}
 use Rattle.bgp_core.specs.declared.pattern.Pattern.{Pattern}
 use Rattle.bgp_core.specs.Solutions.{Places, extension}
 use Rattle.bgp_core.specs.Extends.{Becomes, Extends}
 use Rattle.bgp_core.specs.Fits.{allows_at, allows, agree, fits}
-use Rattle.bgp_core.proofs.Extending.{term-self, extension-some}
-
-same_passes : (t s : Term) → t ≡ s → term_eq t s ≡ true
-same_passes t s e = subst (λ (x : Term). term_eq t x ≡ true) e (term-self t)
+use Rattle.bgp_core.proofs.Extending.{extension-some}
 
 place_allows : (o : Option (Option Term)) (t : Term) → ((u : Term) → o ≡ Some (Some u) → u ≡ t) → allows_at o t ≡ true
 place_allows None t h = refl

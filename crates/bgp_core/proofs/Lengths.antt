@@ -1,7 +1,8 @@
 -- Each solution has as many places as the row that it extends.
-use Rattle.std.proofs.Common.{ℕ, ◌≡◌, Bool, if◌then◌else◌, true, false, List, [], ◌∷◌, ◌++◌, length, Option, Some, None, slice_get, replicate, sym, subst, ◌∙◌}
+use Rattle.std.proofs.Common.{ℕ, ◌≡◌, Bool, if◌then◌else◌, true, false, List, [], ◌∷◌, length, Option, Some, None, slice_get, replicate, sym, subst, ◌∙◌}
 use Rattle.std.specs.List.{AllByRecursion, flat_map}
 use Rattle.std.proofs.Math.ListN.{length-set, length-replicate}
+use Rattle.list_laws.proofs.Each.{all_append}
 use Rattle.rdf_terms.specs.Same.{term_eq}
 use Rattle.rdf_terms.specs.declared.term.Term.{Term}
 use Rattle.rdf_terms.specs.declared.term.Triple.{Triple}
@@ -42,17 +43,13 @@ extension-length n p row t h =
 abbrev pub HaveLength : ℕ → List Places → Type 0
 HaveLength n rows = AllByRecursion (λ r. n ≡ length r) rows
 
-append-have : (n : ℕ) (xs ys : List Places) → HaveLength n xs → HaveLength n ys → HaveLength n (xs ++ ys)
-append-have n [] ys h g = g
-append-have n (x ∷ xs) ys h g = (h.0, append-have n xs ys h.1 g)
-
 from-have : (n : ℕ) (o : Option Places) (f : Places → List Places) → IfLength n o → ((row : Places) → length row ≡ n → HaveLength n (f row)) → HaveLength n (rows_from o f)
 from-have n None f h g = tt
 from-have n (Some row) f h g = g row h
 
 each-have : (n : ℕ) (f : Triple → List Places) (ts : List Triple) → ((t : Triple) → HaveLength n (f t)) → HaveLength n (flat_map f ts)
 each-have n f [] h = tt
-each-have n f (t ∷ ts) h = append-have n (f t) (flat_map f ts) (h t) (each-have n f ts h)
+each-have n f (t ∷ ts) h = all_append (λ r. n ≡ length r) (f t) (flat_map f ts) (h t) (each-have n f ts h)
 
 pub solutions-have : (n : ℕ) (triples : List Triple) (ps : List Pattern) (row : Places) → length row ≡ n → HaveLength n (solutions triples ps row)
 solutions-have n triples [] row h = (sym h, tt)

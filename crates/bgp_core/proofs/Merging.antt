@@ -6,13 +6,14 @@ use Rattle.std.proofs.lemmas.Bool.{and_from, and_parts, cases_lt, cases_Bool, tr
 use Rattle.list_laws.proofs.Options.{none_not_some, some_not_none, some_same}
 use Rattle.list_laws.proofs.Lists.{cons_same}
 use Rattle.list_laws.proofs.Members.{at_head, in_tail, head_or_tail, none_in, one_of, contains_one, in_flat_map, from_flat_map}
+use Rattle.list_laws.proofs.Tests.{same_truth}
 use Rattle.rdf_terms.specs.Same.{term_eq}
 use Rattle.rdf_terms.specs.declared.term.Term.{Term}
+use Rattle.rdf_terms.proofs.Equality.{term_same, term_self}
 use Rattle.bgp_core.specs.Solutions.{Places, term_at}
 use Rattle.bgp_core.specs.Rows.{term_in, places_from}
 use Rattle.bgp_core.specs.Merging.{agree_at, compatible, either, merged, if_kept, kept, Binds, MergingIsUnion}
 use Rattle.bgp_core.specs.Pairs.{all_agree, unless_bound, unbound_in, pair_if, kept_pairs, name_if, names_below}
-use Rattle.bgp_core.proofs.Extending.{term-same, term-self}
 use Rattle.bgp_core.proofs.Places.{places-length, at-within, term-beyond}
 
 -- ---- place by place
@@ -67,12 +68,12 @@ kept_length (b ∷ flags) (o ∷ r) = let e : length (kept flags r) ≡ length r
 one_term : (o p : Option Term) (t u : Term) → agree_at o p ≡ true → o ≡ Some t → p ≡ Some u → t ≡ u
 one_term None p t u h a b = absurd (none_not_some a)
 one_term (Some x) None t u h a b = absurd (none_not_some b)
-one_term (Some x) (Some y) t u h a b = sym (some_same a) ∙ term-same x y h ∙ some_same b
+one_term (Some x) (Some y) t u h a b = sym (some_same a) ∙ term_same x y h ∙ some_same b
 
 agrees : (o p : Option Term) → ((t u : Term) → o ≡ Some t → p ≡ Some u → t ≡ u) → agree_at o p ≡ true
 agrees None p h = refl
 agrees (Some t) None h = refl
-agrees (Some t) (Some u) h = subst (λ (x : Term). term_eq t x ≡ true) (h t u refl refl) (term-self t)
+agrees (Some t) (Some u) h = subst (λ (x : Term). term_eq t x ≡ true) (h t u refl refl) (term_self t)
 
 pub merging-union : MergingIsUnion
 merging-union = record {
@@ -148,11 +149,6 @@ everywhere n bs r s seen h k = by (term_at s k) refl
     by : (o : Option Term) → term_at s k ≡ o → agree_at (term_at r k) (term_at s k) ≡ true
     by None e = rw e (agrees_none (term_at r k))
     by (Some t) e = agrees_at r s bs k t h (bound_in n bs s k t seen e).1
-
-same_truth : (a b : Bool) → (a ≡ true → b ≡ true) → (b ≡ true → a ≡ true) → a ≡ b
-same_truth true b f g = sym (f refl)
-same_truth false true f g = g refl
-same_truth false false f g = refl
 
 pub compatible-is : (n : ℕ) (bs : List (ℕ × Term)) (r s : Places) → places_from 0 n bs ≡ s → all_agree r s bs ≡ compatible r s
 compatible-is n bs r s seen =

@@ -1,18 +1,14 @@
 -- The solutions of patterns in another order are the same in another order.
-use Rattle.std.proofs.Common.{ℕ, zero, suc, ◌≡◌, ◌<◌, List, [], ◌∷◌, ◌++◌, length, get_or, Option, Some, None, Bool, true, false, cond, refl, ap, sym, subst, ◌∙◌, arith, append_assoc}
-use Rattle.std.specs.List.{flat_map, swap, remove, filter}
-use Rattle.std.proofs.Math.ListN.{set}
+use Rattle.std.proofs.Common.{ℕ, ◌≡◌, ◌<◌, List, [], ◌∷◌, ◌++◌, length, get_or, Option, Some, None, Bool, true, false, cond, refl, ap, sym, subst, ◌∙◌, append_assoc}
+use Rattle.std.specs.List.{flat_map, remove, filter}
 use Rattle.std.specs.List.Sorted.{IsPermutation}
+use Rattle.list_laws.proofs.Orders.{same, front, along, flat_map_each}
 use Rattle.rdf_terms.specs.declared.term.Triple.{Triple}
 use Rattle.bgp_core.specs.declared.pattern.Pattern.{Pattern}
 use Rattle.bgp_core.specs.Solutions.{Places, extended, extension, rows_from, solutions}
-use Rattle.std.proofs.lemmas.List.Edits.{swap_is}
-use Rattle.std.proofs.lemmas.List.Sorted.{IsPermutation-refl, IsPermutation-trans, IsPermutation-append_right, IsPermutation-keeps, IsPermutation-remove}
+use Rattle.std.proofs.lemmas.List.Sorted.{IsPermutation-refl, IsPermutation-trans, IsPermutation-append_right, IsPermutation-remove}
 use Rattle.bgp_core.proofs.Swaps.{extension-Commute}
-use Rattle.bgp_core.proofs.Orders.{flat_map-each, first_of, front}
-
-pub same : {A : Type 0} (xs ys : List A) → xs ≡ ys → IsPermutation xs ys
-same xs ys e = subst (IsPermutation xs) e (IsPermutation-refl xs)
+use Rattle.bgp_core.proofs.Orders.{from-each}
 
 pub flat_map-same : {X A : Type 0} (f g : X → List A) (xs : List X) → ((x : X) → f x ≡ g x) → flat_map f xs ≡ flat_map g xs
 flat_map-same f g [] h = refl
@@ -46,10 +42,6 @@ from-flat_map : {Y A : Type 0} (o : Option Places) (h : Places → Y → List A)
 from-flat_map None h ys = flat_map-nothing ys
 from-flat_map (Some r) h ys = refl
 
-pub from-each : {A : Type 0} (o : Option Places) (f g : Places → List A) → ((row : Places) → IsPermutation (f row) (g row)) → IsPermutation (rows_from o f) (rows_from o g)
-from-each None f g h = IsPermutation-refl _
-from-each (Some row) f g h = h row
-
 one_pair : {A : Type 0} (p q : Pattern) (row : Places) (k : Places → List A) (t s : Triple) → rows_from (extension p row t) (λ r. rows_from (extension q r s) k) ≡ rows_from (extension q row s) (λ r. rows_from (extension p r t) k)
 one_pair p q row k t s = sym (from-extended (extension p row t) (λ r. extension q r s) k) ∙ ap (λ (o : Option Places). rows_from o k) (extension-Commute p q t s row) ∙ from-extended (extension q row s) (λ r. extension p r t) k
 
@@ -69,29 +61,15 @@ exchanged ts p q ps row = two_patterns p q ts ts (solutions ts ps) row
 
 -- the first pattern stays, and the others give the same rows
 below : (ts : List Triple) (p : Pattern) (ps qs : List Pattern) (row : Places) → ((r : Places) → IsPermutation (solutions ts ps r) (solutions ts qs r)) → IsPermutation (solutions ts (p ∷ ps) row) (solutions ts (p ∷ qs) row)
-below ts p ps qs row h = flat_map-each (λ t. rows_from (extension p row t) (solutions ts ps)) (λ t. rows_from (extension p row t) (solutions ts qs)) ts (λ t. from-each (extension p row t) (solutions ts ps) (solutions ts qs) h)
-
-moved : (ts : List Triple) (ps : List Pattern) (k : ℕ) (d e : Pattern) (row : Places) → k < length ps → IsPermutation (solutions ts (d ∷ ps) row) (solutions ts (get_or ps k e ∷ set ps k d) row)
-moved ts [] k d e row h = absurd (omega arith)
-moved ts (p ∷ ps) zero d e row h = exchanged ts d p ps row
-moved ts (p ∷ ps) (suc k) d e row h =
-    let two = below ts p (d ∷ ps) (get_or ps k e ∷ set ps k d) row (λ r. moved ts ps k d e r (omega arith)) in
-    IsPermutation-trans _ _ _ (exchanged ts d p ps row) (IsPermutation-trans _ _ _ two (exchanged ts p (get_or ps k e) (set ps k d) row))
-
-swapped : (ts : List Triple) (ps : List Pattern) (i j : ℕ) (e : Pattern) (row : Places) → i < length ps → j < length ps → IsPermutation (solutions ts ps row) (solutions ts (set (set ps i (get_or ps j e)) j (get_or ps i e)) row)
-swapped ts [] i j e row h g = absurd (omega arith)
-swapped ts (p ∷ ps) zero zero e row h g = IsPermutation-refl _
-swapped ts (p ∷ ps) zero (suc j) e row h g = moved ts ps j p e row (omega arith)
-swapped ts (p ∷ ps) (suc i) zero e row h g = moved ts ps i p e row (omega arith)
-swapped ts (p ∷ ps) (suc i) (suc j) e row h g = below ts p ps _ row (λ r. swapped ts ps i j e r (omega arith) (omega arith))
-
-step : (ts : List Triple) (row : Places) (qs ps : List Pattern) (i j : ℕ) → i < length ps → j < length ps → IsPermutation (solutions ts qs row) (solutions ts ps row) → IsPermutation (solutions ts qs row) (solutions ts (swap ps i j) row)
-step ts row qs ps i j h g p =
-    let e = first_of ps (omega arith) in
-    IsPermutation-trans _ _ _ p (subst (λ m. IsPermutation (solutions ts ps row) (solutions ts m row)) (swap_is ps i j e h g) (swapped ts ps i j e row h g))
+below ts p ps qs row h = flat_map_each (λ t. rows_from (extension p row t) (solutions ts ps)) (λ t. rows_from (extension p row t) (solutions ts qs)) ts (λ t. from-each (extension p row t) (solutions ts ps) (solutions ts qs) h)
 
 pub solutions-patterns : (ts : List Triple) (ps qs : List Pattern) (row : Places) → IsPermutation ps qs → IsPermutation (solutions ts ps row) (solutions ts qs row)
-solutions-patterns ts ps qs row p = IsPermutation-keeps ps (λ l. IsPermutation (solutions ts ps row) (solutions ts l row)) (IsPermutation-refl _) (step ts row ps) qs p
+solutions-patterns ts ps qs row p = along (λ l m. (r : Places) → IsPermutation (solutions ts l r) (solutions ts m r))
+    (λ l r. IsPermutation-refl (solutions ts l r))
+    (λ x l m h r. below ts x l m r h)
+    (λ x y l r. exchanged ts x y l r)
+    (λ l m n h k r. IsPermutation-trans (solutions ts l r) (solutions ts m r) (solutions ts n r) (h r) (k r))
+    ps qs p row
 
 -- pattern number i may be taken first
 pub solutions-first : (ts : List Triple) (ps : List Pattern) (i : ℕ) (p : Pattern) (row : Places) → i < length ps → p ≡ get_or ps i p → IsPermutation (solutions ts ps row) (flat_map (λ t. rows_from (extension p row t) (solutions ts (remove ps i))) ts)

@@ -1,7 +1,8 @@
 -- The places of a row, from the names that are bound.
 use Rattle.std.specs.Prelude.{MatchOption}
-use Rattle.std.proofs.Common.{Bor, ℕ, zero, suc, ◌≡◌, ◌<◌, ◌≤◌, ◌+◌, nat_eq, Bool, true, false, if◌then◌else◌, List, [], ◌∷◌, ◌++◌, length, map, Option, Some, None, slice_get, slice_set, replicate, refl, ap, sym, subst, ◌∙◌, arith}
+use Rattle.std.proofs.Common.{Bor, ℕ, zero, suc, ◌≡◌, ◌<◌, ◌≤◌, ◌+◌, nat_eq, Bool, true, false, if◌then◌else◌, List, [], ◌∷◌, ◌++◌, length, Option, Some, None, slice_get, slice_set, replicate, refl, ap, sym, subst, ◌∙◌, arith}
 use Rattle.std.proofs.lemmas.Bool.Decides.{nat_tests}
+use Rattle.list_laws.proofs.Tests.{self_test}
 use Rattle.rdf_terms.specs.declared.term.Term.{Term}
 use Rattle.bgp_core.specs.Solutions.{Places, joined, term_at}
 use Rattle.bgp_core.specs.Rows.{term_in, places_from}
@@ -39,15 +40,12 @@ more-other : (bs : List (ℕ × Term)) (m k : ℕ) (t : Term) → (m ≡ k → �
 more-other [] m k t h = other-term (nat_eq k m) m k t refl h
 more-other (b ∷ bs) m k t h = ap (λ o. if nat_eq b.0 m then Some b.1 else o) (more-other bs m k t h)
 
-self-test : (k : ℕ) → nat_eq k k ≡ true
-self-test k = grind (arith, nat_tests)
-
 here-by : (x : Bool) (k : ℕ) (b : ℕ × Term) (rest : Option Term) (more : Option Term) (t : Term) → (if x then Some b.1 else rest) ≡ None → (rest ≡ None → more ≡ Some t) → (if x then Some b.1 else more) ≡ Some t
 here-by true k b rest more t h g = cc
 here-by false k b rest more t h g = g h
 
 more-here : (bs : List (ℕ × Term)) (k : ℕ) (t : Term) → term_in k bs ≡ None → term_in k (bs ++ (k, t) ∷ []) ≡ Some t
-more-here [] k t h = rw (self-test k) refl
+more-here [] k t h = rw (self_test k) refl
 more-here (b ∷ bs) k t h = here-by (nat_eq b.0 k) k b (term_in k bs) (term_in k (bs ++ (k, t) ∷ [])) t h (λ g. more-here bs k t g)
 
 places-below : (i n : ℕ) (bs : List (ℕ × Term)) (k : ℕ) (t : Term) → k < i → places_from i n (bs ++ (k, t) ∷ []) ≡ places_from i n bs
@@ -79,10 +77,6 @@ places-bound n bs k t h f =
     let e : 0 + k ≡ k = omega arith in
     subst (λ m. places_from 0 n (bs ++ (m, t) ∷ []) ≡ slice_set (places_from 0 n bs) k (Some t)) e
     (places-push 0 n bs k t h (ap (λ m. term_in m bs) e ∙ sym (term-within n bs k h) ∙ f))
-
-pub map-snoc : {A B : Type 0} (f : A → B) (xs : List A) (x : A) → map f (xs ++ x ∷ []) ≡ map f xs ++ f x ∷ []
-map-snoc f [] x = refl
-map-snoc f (y ∷ ys) x = ap (λ l. f y ∷ l) (map-snoc f ys x)
 
 pub bind-done : (n : ℕ) (bs after : List (ℕ × Term)) (old : Places) (k : ℕ) (t : Term) → places_from 0 n bs ≡ old → k < length old → term_at old k ≡ None → after ≡ bs ++ (k, t) ∷ [] → places_from 0 n after ≡ slice_set old k (Some t)
 bind-done n bs after old k t seen h f e =

@@ -5,11 +5,12 @@ use Rattle.std.proofs.lemmas.Bool.{cases_eq}
 use Rattle.rdf_terms.specs.Same.{term_eq}
 use Rattle.rdf_terms.specs.declared.term.Term.{Term}
 use Rattle.rdf_terms.specs.declared.term.Triple.{Triple}
+use Rattle.rdf_terms.proofs.Equality.{term_same, term_self}
 use Rattle.bgp_core.specs.declared.pattern.Part.{Part}
 use Rattle.bgp_core.specs.declared.pattern.Part.TheVariants.{Fixed, Name}
 use Rattle.bgp_core.specs.declared.pattern.Pattern.{Pattern}
 use Rattle.bgp_core.specs.Solutions.{Places, put, bind, extended, extension}
-use Rattle.bgp_core.proofs.Extending.{term-same, term-self, get-set, get-set_other}
+use Rattle.bgp_core.proofs.Extending.{get-set, get-set_other}
 
 -- ---- steps that may be taken in either order
 
@@ -79,14 +80,14 @@ either false true row f g h k = sym k
 either false false row f g h k = refl
 
 one_term : (b c : Bool) (t s : Term) (n : ℕ) (row : Places) → term_eq t s ≡ b → term_eq s t ≡ c → ◌≡◌ {A = Option Places} (if b then Some (slice_set row n (Some t)) else None) (if c then Some (slice_set row n (Some s)) else None)
-one_term true true t s n row h k = ap (λ (x : Term). let y : Option Places = Some (slice_set row n (Some x)) in y) (term-same t s h)
+one_term true true t s n row h k = ap (λ (x : Term). let y : Option Places = Some (slice_set row n (Some x)) in y) (term_same t s h)
 one_term false false t s n row h k = refl
 one_term true false t s n row h k =
-    let e : t ≡ s = term-same t s h in
-    let f : term_eq s t ≡ true = subst (λ (x : Term). term_eq s x ≡ true) (sym e) (term-self s) in cc
+    let e : t ≡ s = term_same t s h in
+    let f : term_eq s t ≡ true = subst (λ (x : Term). term_eq s x ≡ true) (sym e) (term_self s) in cc
 one_term false true t s n row h k =
-    let e : s ≡ t = term-same s t k in
-    let f : term_eq t s ≡ true = subst (λ (x : Term). term_eq t x ≡ true) (sym e) (term-self t) in cc
+    let e : s ≡ t = term_same s t k in
+    let f : term_eq t s ≡ true = subst (λ (x : Term). term_eq t x ≡ true) (sym e) (term_self t) in cc
 
 together : (o : Option (Option Term)) (n : ℕ) (t s : Term) (row : Places) → slice_get row n ≡ o → extended (put o n t row) (λ r. put (slice_get r n) n s r) ≡ extended (put o n s row) (λ r. put (slice_get r n) n t r)
 together None n t s row h = refl
