@@ -3,20 +3,23 @@ use Rattle.std.proofs.Common.{◌≡◌, ℕ, ◌+◌, ◌-◌, ◌^◌, ◌<◌
 use Rattle.std.specs.Prelude.{codes, decimal, is_some}
 use Rattle.std.specs.List.{list_all, list_any}
 use Rattle.std.specs.Char.{is_ascii, is_ascii_digit, is_ascii_uppercase, to_ascii_lowercase}
-use Rattle.std.specs.Str.{str_to_ascii_lowercase, IsUtf8, IsAscii}
+use Rattle.std.specs.Str.{str_to_ascii_lowercase, IsUtf8}
 use Rattle.std.proofs.lemmas.List.{length-map}
 use Rattle.std.proofs.lemmas.List.Folds.{list_any-append, list_all-append}
 use Rattle.std.proofs.lemmas.Bool.Decides.{nat_tests}
 use Rattle.std.proofs.lemmas.Bool.{agree_below_at, and_from}
+use Rattle.rdf_terms.proofs.Iris.{digit_iri}
+use Rattle.tpf_base.proofs.AddressBytes.{host_below}
+use Rattle.list_laws.proofs.Bytes.{ascii_list, digit_ascii}
 use Rattle.rdf_terms.specs.Iri.{is_iri, is_iri_byte}
 use Rattle.std.proofs.lemmas.Fmt.{decimal_is_IsNumeral}
 use Rattle.std.proofs.lemmas.Str.{IsUtf8-from_ascii}
-use Rattle.std.proofs.lemmas.Str.Ascii.{IsAscii-nil, IsAscii-cons}
 use Rattle.std.proofs.lemmas.Str.Parse.{digit_from_value}
 use Rattle.std.specs.Str.Parse.{AllDigits}
 use Rattle.std.proofs.Math.Seq.{drop-append_seam, take-append_seam, drop-append-add}
-use Rattle.list_laws.proofs.Tests.{implied}
+use Rattle.list_laws.proofs.Tests.{implied, and_first, and_second}
 use Rattle.tpf_base.specs.Addresses.{Address, IsAddress, IsPortTyped, is_host_byte, is_host, is_address_byte, is_path_byte, is_query_part, authority_text, query_text, target_of, address_text}
+use Rattle.tpf_base.specs.declared.limits.TheConstants.{HIGHEST_PORT}
 use Rattle.template_fill.specs.ReadAddress.{IsSpelled, Spelled, is_rest, rooted, path_of, query_of, with_target, normal}
 use Rattle.template_fill.specs.WebAddress.{IsNormal, IsKept, is_lower, port_text, kept_address, kept_host, kept_target, Extends}
 use Rattle.template_fill.specs.Authorities.{ShareAuthority}
@@ -24,19 +27,11 @@ use Rattle.template_fill.proofs.Passing.{list_all-wider}
 
 -- ---- tests
 
-pub and_left : (a b : Bool) → a && b ≡ true → a ≡ true
-and_left true b h = refl
-and_left false b h = h
-
-pub and_right : (a b : Bool) → a && b ≡ true → b ≡ true
-and_right true b h = h
-and_right false b h = absurd (cc)
-
 below_127 : (b : ℕ) → nat_lt b 127 ≡ true → is_ascii b ≡ true
 below_127 b h = grind (arith, nat_tests)
 
 pub is_ascii-address : (b : ℕ) → is_address_byte b ≡ true → is_ascii b ≡ true
-is_ascii-address b h = below_127 b (and_right (nat_lt 32 b) (nat_lt b 127) (and_left (nat_lt 32 b && nat_lt b 127) _ h))
+is_ascii-address b h = below_127 b (and_second (nat_lt 32 b) (nat_lt b 127) (and_first (nat_lt 32 b && nat_lt b 127) _ h))
 
 pub is_ascii-host : (b : ℕ) → is_host_byte b ≡ true → is_ascii b ≡ true
 is_ascii-host b h = grind (arith, nat_tests)
@@ -66,8 +61,8 @@ target-parts (b ∷ rest) =
 pub is_path_byte-path : (rest : List ℕ) → list_all is_address_byte rest ≡ true → list_all is_path_byte (path_of rest) ≡ true
 is_path_byte-path [] all = refl
 is_path_byte-path (b ∷ rest) all =
-    let more = is_path_byte-path rest (and_right (is_address_byte b) _ all) in
-    let own = and_left (is_address_byte b) _ all in
+    let more = is_path_byte-path rest (and_second (is_address_byte b) _ all) in
+    let own = and_first (is_address_byte b) _ all in
     let go : (t : Bool) → (b == 63) ≡ t → list_all is_path_byte (cond t [] (b ∷ path_of rest)) ≡ true =
     λ t. elim t as (λ v. (b == 63) ≡ v → list_all is_path_byte (cond v [] (b ∷ path_of rest)) ≡ true) [
       | true ↦ λ _. refl
@@ -78,7 +73,7 @@ is_path_byte-path (b ∷ rest) all =
 pub is_query_part-query : (rest : List ℕ) → list_all is_address_byte rest ≡ true → is_query_part (query_of rest) ≡ true
 is_query_part-query [] all = refl
 is_query_part-query (b ∷ rest) all =
-    let tail = and_right (is_address_byte b) _ all in
+    let tail = and_second (is_address_byte b) _ all in
     let more = is_query_part-query rest tail in
     elim (b == 63) as (λ v. is_query_part (cond v (Some rest) (query_of rest)) ≡ true) [ true ↦ tail | false ↦ more ]
 
@@ -91,8 +86,8 @@ pub record IsRooted (target : List ℕ) : Type 0 where
 pub is_rooted : (rest : List ℕ) → is_rest rest ≡ true → IsRooted (rooted rest)
 is_rooted [] h = record { after_slash = []; slash = refl; bytes = refl }
 is_rooted (b ∷ rest) h =
-    let mark = and_left ((b == 47) || (b == 63)) _ h in
-    let bytes = and_right ((b == 47) || (b == 63)) _ h in
+    let mark = and_first ((b == 47) || (b == 63)) _ h in
+    let bytes = and_second ((b == 47) || (b == 63)) _ h in
     let go : (t : Bool) → (b == 47) ≡ t → IsRooted (cond t (b ∷ rest) (47 ∷ b ∷ rest)) =
     λ t. elim t as (λ v. (b == 47) ≡ v → IsRooted (cond v (b ∷ rest) (47 ∷ b ∷ rest))) [
       | true ↦ λ yes. let is : b ≡ 47 = grind (arith, nat_tests) in record { after_slash = rest; slash = ap (λ x. x ∷ rest) is; bytes = bytes }
@@ -104,7 +99,7 @@ is_rooted (b ∷ rest) h =
 
 pub is_lower-same : (host : List ℕ) → is_lower host ≡ true → str_to_ascii_lowercase host ≡ host
 is_lower-same [] h = refl
-is_lower-same (b ∷ host) h = rw (lower-not_upper b (and_left (not (is_ascii_uppercase b)) _ h), is_lower-same host (and_right (not (is_ascii_uppercase b)) _ h)) refl
+is_lower-same (b ∷ host) h = rw (lower-not_upper b (and_first (not (is_ascii_uppercase b)) _ h), is_lower-same host (and_second (not (is_ascii_uppercase b)) _ h)) refl
 
 pub is_lower-lower : (host : List ℕ) → is_lower (str_to_ascii_lowercase host) ≡ true
 is_lower-lower [] = refl
@@ -112,13 +107,13 @@ is_lower-lower (b ∷ host) = and_from (not (is_ascii_uppercase (to_ascii_lowerc
 
 all_host-lower : (host : List ℕ) → list_all is_host_byte host ≡ true → list_all is_host_byte (str_to_ascii_lowercase host) ≡ true
 all_host-lower [] h = refl
-all_host-lower (b ∷ host) h = and_from (is_host_byte (to_ascii_lowercase b)) _ (is_host_byte-lower b (and_left (is_host_byte b) _ h)) (all_host-lower host (and_right (is_host_byte b) _ h))
+all_host-lower (b ∷ host) h = and_from (is_host_byte (to_ascii_lowercase b)) _ (is_host_byte-lower b (and_first (is_host_byte b) _ h)) (all_host-lower host (and_second (is_host_byte b) _ h))
 
 pub is_host-lower : (host : List ℕ) → is_host host ≡ true → is_host (str_to_ascii_lowercase host) ≡ true
-is_host-lower host h = rw length-map (and_from (nat_le 1 (length host) && nat_le (length host) 255) _ (and_left (nat_le 1 (length host) && nat_le (length host) 255) _ h) (all_host-lower host (and_right (nat_le 1 (length host) && nat_le (length host) 255) _ h)))
+is_host-lower host h = rw length-map (and_from (nat_le 1 (length host) && nat_le (length host) 255) _ (and_first (nat_le 1 (length host) && nat_le (length host) 255) _ h) (all_host-lower host (and_second (nat_le 1 (length host) && nat_le (length host) 255) _ h)))
 
 pub all_host : (host : List ℕ) → is_host host ≡ true → list_all is_host_byte host ≡ true
-all_host host h = and_right (nat_le 1 (length host) && nat_le (length host) 255) _ h
+all_host host h = and_second (nat_le 1 (length host) && nat_le (length host) 255) _ h
 
 -- ---- ports
 
@@ -128,12 +123,12 @@ authority-port host port = elim (port == 80) as (λ v. cond v host (host ++ code
   | false ↦ append_assoc host (codes ":") (decimal port)
 ]
 
-pub is_port_typed : (port : ℕ) → 0 < port → port < 65536 → IsPortTyped (port_text port) port
+pub is_port_typed : (port : ℕ) → 0 < port → port ≤ HIGHEST_PORT → IsPortTyped (port_text port) port
 is_port_typed port low high =
     let go : (t : Bool) → (port == 80) ≡ t → IsPortTyped (cond t [] (codes ":" ++ decimal port)) port =
     λ t. elim t as (λ v. (port == 80) ≡ v → IsPortTyped (cond v [] (codes ":" ++ decimal port)) port) [
       | true ↦ λ yes. inl (refl, grind (arith, nat_tests))
-      | false ↦ λ _. inr (refl, and_from (nat_le 1 port) (nat_le port 65535) (grind (arith, nat_tests)) (grind (arith, nat_tests)))
+      | false ↦ λ _. inr (refl, and_from (nat_le 1 port) (nat_le port HIGHEST_PORT) (grind (arith, nat_tests)) (grind (arith, nat_tests)))
     ] in
     go (port == 80) refl
 
@@ -185,12 +180,6 @@ kept_target_of bytes part host_len authority_len port a is cut =
 
 -- ---- ASCII
 
-ascii_list : (bytes : List ℕ) → list_all is_ascii bytes ≡ true → IsAscii bytes
-ascii_list [] all = IsAscii-nil
-ascii_list (b ∷ bytes) all =
-    let own = and_left (is_ascii b) _ all in
-    IsAscii-cons b bytes (grind (arith, nat_tests)) (ascii_list bytes (and_right (is_ascii b) _ all))
-
 pub utf8-ascii : (bytes : List ℕ) → list_all is_ascii bytes ≡ true → IsUtf8 bytes
 utf8-ascii bytes all =
     IsUtf8-from_ascii bytes (ascii_list bytes all)
@@ -198,8 +187,8 @@ utf8-ascii bytes all =
 pub ascii-rest : (rest : List ℕ) → is_rest rest ≡ true → list_all is_ascii rest ≡ true
 ascii-rest [] h = refl
 ascii-rest (b ∷ rest) h =
-    let mark = and_left ((b == 47) || (b == 63)) _ h in
-    let bytes = and_right ((b == 47) || (b == 63)) _ h in
+    let mark = and_first ((b == 47) || (b == 63)) _ h in
+    let bytes = and_second ((b == 47) || (b == 63)) _ h in
     and_from (is_ascii b) _ (grind (arith, nat_tests)) (list_all-wider is_address_byte is_ascii is_ascii-address rest bytes)
 
 pub all_digits : (digits : List ℕ) → AllDigits 10 digits → list_all is_ascii_digit digits ≡ true
@@ -213,13 +202,10 @@ all_digits (d ∷ digits) h =
 pub all_digits-decimal : (n : ℕ) → n < 2 ^ 64 → list_all is_ascii_digit (decimal n) ≡ true
 all_digits-decimal n small = all_digits (decimal n) ((decimal_is_IsNumeral n small).0).1
 
-digit-ascii : (b : ℕ) → is_ascii_digit b ≡ true → is_ascii b ≡ true
-digit-ascii b h = grind (arith, nat_tests)
-
-ascii-port_text : (port : ℕ) → port < 65536 → list_all is_ascii (port_text port) ≡ true
+ascii-port_text : (port : ℕ) → port ≤ HIGHEST_PORT → list_all is_ascii (port_text port) ≡ true
 ascii-port_text port high = elim (port == 80) as (λ v. list_all is_ascii (cond v [] (codes ":" ++ decimal port)) ≡ true) [
   | true ↦ refl
-  | false ↦ list_all-wider is_ascii_digit is_ascii digit-ascii (decimal port) (all_digits-decimal port (omega arith))
+  | false ↦ list_all-wider is_ascii_digit is_ascii digit_ascii (decimal port) (all_digits-decimal port (omega arith))
 ]
 
 ascii-whole : (host target : List ℕ) (port : ℕ) → IsNormal host port target → list_all is_ascii (codes "http://" ++ (authority_text host port ++ target)) ≡ true
@@ -292,9 +278,6 @@ extended_shares bytes longer host_len authority_len port a kept is e =
 
 -- ---- IRIs
 
-host-below : (b : ℕ) → is_host_byte b ≡ true → b < 128
-host-below b h = grind (arith, nat_tests)
-
 address-below : (b : ℕ) → is_address_byte b ≡ true → b < 128
 address-below b h = grind (arith, nat_tests, is_ascii-address b h)
 
@@ -302,18 +285,12 @@ pub iri_byte-address : (b : ℕ) → is_address_byte b ≡ true → is_iri_byte 
 iri_byte-address b h = implied (is_address_byte b) (is_iri_byte b) (agree_below_at (λ x. not (is_address_byte x) || is_iri_byte x) (λ _. true) 128 b refl (address-below b h)) h
 
 iri_byte-host : (b : ℕ) → is_host_byte b ≡ true → is_iri_byte b ≡ true
-iri_byte-host b h = implied (is_host_byte b) (is_iri_byte b) (agree_below_at (λ x. not (is_host_byte x) || is_iri_byte x) (λ _. true) 128 b refl (host-below b h)) h
+iri_byte-host b h = implied (is_host_byte b) (is_iri_byte b) (agree_below_at (λ x. not (is_host_byte x) || is_iri_byte x) (λ _. true) 128 b refl (host_below b h)) h
 
-digit-host : (b : ℕ) → is_ascii_digit b ≡ true → is_host_byte b ≡ true
-digit-host b h = grind (arith, nat_tests)
-
-iri_byte-digit : (b : ℕ) → is_ascii_digit b ≡ true → is_iri_byte b ≡ true
-iri_byte-digit b h = iri_byte-host b (digit-host b h)
-
-iri-port_text : (port : ℕ) → port < 65536 → list_all is_iri_byte (port_text port) ≡ true
+iri-port_text : (port : ℕ) → port ≤ HIGHEST_PORT → list_all is_iri_byte (port_text port) ≡ true
 iri-port_text port high = elim (port == 80) as (λ v. list_all is_iri_byte (cond v [] (codes ":" ++ decimal port)) ≡ true) [
   | true ↦ refl
-  | false ↦ list_all-wider is_ascii_digit is_iri_byte iri_byte-digit (decimal port) (all_digits-decimal port (omega arith))
+  | false ↦ list_all-wider is_ascii_digit is_iri_byte digit_iri (decimal port) (all_digits-decimal port (omega arith))
 ]
 
 iri-bytes : (host target : List ℕ) (port : ℕ) → IsNormal host port target → list_all is_iri_byte (authority_text host port ++ target) ≡ true
@@ -344,7 +321,7 @@ query_part bytes part host_len authority_len port a is cut =
 -- nothing before the target holds a ?
 pub unmarked : (p : ℕ → Bool) → ((b : ℕ) → p b ≡ true → (b == 63) ≡ false) → (bytes : List ℕ) → list_all p bytes ≡ true → list_any (λ b. b == 63) bytes ≡ false
 unmarked p apart [] all = refl
-unmarked p apart (b ∷ bytes) all = rw (apart b (and_left (p b) _ all), unmarked p apart bytes (and_right (p b) _ all)) refl
+unmarked p apart (b ∷ bytes) all = rw (apart b (and_first (p b) _ all), unmarked p apart bytes (and_second (p b) _ all)) refl
 
 pub unmarked-host : (b : ℕ) → is_host_byte b ≡ true → (b == 63) ≡ false
 unmarked-host b h = grind (arith, nat_tests)
@@ -352,7 +329,7 @@ unmarked-host b h = grind (arith, nat_tests)
 pub unmarked-digit : (b : ℕ) → is_ascii_digit b ≡ true → (b == 63) ≡ false
 unmarked-digit b h = grind (arith, nat_tests)
 
-pub unmarked-port : (port : ℕ) → port < 65536 → list_any (λ b. b == 63) (port_text port) ≡ false
+pub unmarked-port : (port : ℕ) → port ≤ HIGHEST_PORT → list_any (λ b. b == 63) (port_text port) ≡ false
 unmarked-port port high = elim (port == 80) as (λ v. list_any (λ b. b == 63) (cond v [] (codes ":" ++ decimal port)) ≡ false) [
   | true ↦ refl
   | false ↦ unmarked is_ascii_digit unmarked-digit (decimal port) (all_digits-decimal port (omega arith))

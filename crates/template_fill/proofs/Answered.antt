@@ -6,9 +6,11 @@ use Rattle.std.specs.Char.{is_ascii_digit}
 use Rattle.std.specs.Str.Parse.{digits_value}
 use Rattle.std.proofs.lemmas.Bool.Decides.{nat_tests}
 use Rattle.std.proofs.lemmas.Slice.Eq.{bytes_eq-Decides}
+use Rattle.list_laws.proofs.Options.{when_some, bind_some}
+use Rattle.list_laws.proofs.Bytes.{same_bytes}
+use Rattle.list_laws.proofs.Tests.{and_second}
 use Rattle.tpf_base.specs.Addresses.{Address, target_of}
 use Rattle.rdf_terms.specs.declared.term.Triple.{Triple}
-use Rattle.rdf_terms.specs.declared.slots.Slot.{Slot}
 use Rattle.rdf_terms.specs.declared.slots.Slots.{Slots}
 use Rattle.rdf_terms.specs.Selections.{Selection, selected_last}
 use Rattle.template_fill.specs.ReadAddress.{path_of, ◌>>=◌}
@@ -18,14 +20,9 @@ use Rattle.template_fill.specs.Bodies.{version_of, page_body}
 use Rattle.tpf_base.specs.Marks.{Mark, version_at}
 use Rattle.template_fill.specs.Answers.{Question, values_under, one_value, slot_under, page_number, rows_under, asked_by, read_as, parameters, question_of, page_answer, answer_if, is_reload, version_answer, answer_to, AsksFor}
 use Rattle.template_fill.specs.Answered.{address_answer, is_answered, GivesPage, GivesSomePage, IsSamePage, PagesAreGiven, AnsweredGivePages, OnePageIsAsked}
-use Rattle.template_fill.proofs.Addresses.{and_right}
-use Rattle.template_fill.proofs.Reading.{when-inv, bind-inv}
-use Rattle.template_fill.proofs.Questions.{reads_address_back}
+use Rattle.template_fill.proofs.Questions.{reads_address_back, question_with}
 
 -- ---- the page that is asked for
-
-bytes_same : (bytes : List ℕ) → bytes_eq bytes bytes ≡ true
-bytes_same bytes = (bytes_eq-Decides bytes bytes).1 refl
 
 within : (k last : ℕ) → k ≤ last → nat_le k last ≡ true
 within k last high = grind (arith, nat_tests)
@@ -40,7 +37,7 @@ answered : (history : List (List Triple)) (mark : Mark) (config : Config) (addre
     → address_answer history mark config address ≡ record { status = 200; media_type = NQuads; body = page_body history (version_at mark) config question.selection question.page }
 unfolding answer_to version_answer is_reload
 answered history mark config address question path is high =
-    let same : bytes_eq (path_of (target_of address)) config.base.path ≡ true = ap (λ (bytes : List ℕ). bytes_eq bytes config.base.path) path ∙ bytes_same config.base.path in
+    let same : bytes_eq (path_of (target_of address)) config.base.path ≡ true = ap (λ (bytes : List ℕ). bytes_eq bytes config.base.path) path ∙ same_bytes config.base.path in
     ap (λ (b : Bool). if not b then refusal 404 else answer_if history (version_at mark) config (question_of config.rows (target_of address))) same
     ∙ ap (λ (asked : Option Question). answer_if history (version_at mark) config asked) is
     ∙ page_there history (version_at mark) config question high
@@ -62,25 +59,22 @@ pages_are_given history mark config s k address is kept low high given =
 number_low : (digits : List ℕ) (k : ℕ) → page_number digits ≡ Some k → 1 ≤ k
 number_low [] k is = let one : 1 ≡ k = cc in omega arith
 number_low (b ∷ digits) k is =
-    let passed = when-inv (list_all is_ascii_digit (b ∷ digits) && nat_le 1 (digits_value 10 (b ∷ digits))) (digits_value 10 (b ∷ digits)) k is in
-    above (digits_value 10 (b ∷ digits)) k (and_right (list_all is_ascii_digit (b ∷ digits)) (nat_le 1 (digits_value 10 (b ∷ digits))) passed.0) passed.1
+    let passed = when_some (list_all is_ascii_digit (b ∷ digits) && nat_le 1 (digits_value 10 (b ∷ digits))) (digits_value 10 (b ∷ digits)) k is in
+    above (digits_value 10 (b ∷ digits)) k (and_second (list_all is_ascii_digit (b ∷ digits)) (nat_le 1 (digits_value 10 (b ∷ digits))) passed.0) passed.1
   where
     above : (n k : ℕ) → nat_le 1 n ≡ true → n ≡ k → 1 ≤ k
     above n k low is = grind (arith, nat_tests)
-
-abbrev question_with : Slot → Slot → Slot → List Slots → ℕ → Question
-question_with subject predicate object rows page = record { selection = record { slots = record { subject = subject; predicate = predicate; object = object }; rows = rows }; page = page }
 
 asked_low : (reads_rows : Bool) (pairs : List (List ℕ × List ℕ)) (question : Question) → asked_by reads_rows pairs ≡ Some question → 1 ≤ question.page
 asked_low reads_rows pairs question is =
     let pages : Option ℕ = one_value (values_under (codes "page") pairs) >>= page_number in
     let given : Option (List Slots) = rows_under reads_rows pairs in
-    let s = bind-inv (slot_under (codes "subject") pairs) (λ subject. slot_under (codes "predicate") pairs >>= (λ predicate. slot_under (codes "object") pairs >>= (λ object. given >>= (λ rows. pages >>= (λ page. Some (question_with subject predicate object rows page)))))) question is in
-    let p = bind-inv (slot_under (codes "predicate") pairs) (λ predicate. slot_under (codes "object") pairs >>= (λ object. given >>= (λ rows. pages >>= (λ page. Some (question_with s.0 predicate object rows page))))) question s.2 in
-    let o = bind-inv (slot_under (codes "object") pairs) (λ object. given >>= (λ rows. pages >>= (λ page. Some (question_with s.0 p.0 object rows page)))) question p.2 in
-    let r = bind-inv given (λ rows. pages >>= (λ page. Some (question_with s.0 p.0 o.0 rows page))) question o.2 in
-    let n = bind-inv pages (λ page. Some (question_with s.0 p.0 o.0 r.0 page)) question r.2 in
-    let d = bind-inv (one_value (values_under (codes "page") pairs)) page_number n.0 n.1 in
+    let s = bind_some (slot_under (codes "subject") pairs) (λ subject. slot_under (codes "predicate") pairs >>= (λ predicate. slot_under (codes "object") pairs >>= (λ object. given >>= (λ rows. pages >>= (λ page. Some (question_with subject predicate object rows page)))))) question is in
+    let p = bind_some (slot_under (codes "predicate") pairs) (λ predicate. slot_under (codes "object") pairs >>= (λ object. given >>= (λ rows. pages >>= (λ page. Some (question_with s.0 predicate object rows page))))) question s.2 in
+    let o = bind_some (slot_under (codes "object") pairs) (λ object. given >>= (λ rows. pages >>= (λ page. Some (question_with s.0 p.0 object rows page)))) question p.2 in
+    let r = bind_some given (λ rows. pages >>= (λ page. Some (question_with s.0 p.0 o.0 rows page))) question o.2 in
+    let n = bind_some pages (λ page. Some (question_with s.0 p.0 o.0 r.0 page)) question r.2 in
+    let d = bind_some (one_value (values_under (codes "page") pairs)) page_number n.0 n.1 in
     same_page (question_with s.0 p.0 o.0 r.0 n.0) question n.2 (number_low d.0 n.0 d.2)
   where
     same_page : (one other : Question) → Some one ≡ Some other → 1 ≤ one.page → 1 ≤ other.page

@@ -4,14 +4,15 @@ use Rattle.std.specs.List.{list_all}
 use Rattle.std.specs.Char.{is_ascii_digit, digit_value}
 use Rattle.std.specs.Str.Parse.{digits_value, digits_value_after}
 use Rattle.std.proofs.lemmas.Int.Digits.{digits_value_more}
-use Rattle.std.proofs.lemmas.Grind.{common_steps}
 use Rattle.std.proofs.lemmas.Bool.Decides.{nat_tests}
 use Rattle.std.proofs.lemmas.List.{take-append-drop}
 use Rattle.std.proofs.lemmas.Fmt.{decimal-digits_value}
 use Rattle.std.proofs.lemmas.Str.Parse.{tells_digits, numerals_by_value}
 use Rattle.std.specs.Str.Parse.{AllDigits}
 use Rattle.std.specs.Prelude.{decimal, codes, Some, None}
+use Rattle.list_laws.proofs.Bytes.{digits_all}
 use Rattle.tpf_base.specs.Addresses.{is_port}
+use Rattle.tpf_base.specs.declared.limits.TheConstants.{HIGHEST_PORT}
 use Rattle.template_fill.specs.ReadAddress.{is_port_text, opened, SpellsDigits, SpellsPort}
 use Rattle.template_fill.proofs.Passing.{list_all-get}
 
@@ -40,12 +41,12 @@ digits_value-more ds i n all within is =
     let digit = digit_value-digit (get_or ds i 0) (list_all-get is_ascii_digit ds i 0 all within) in
     rw (digits_value_more 10 ds i within, digit.0, is) refl
 
-above : (ds : List ℕ) → 65535 < digits_value 10 ds → is_port_text ds ≡ false
+above : (ds : List ℕ) → HIGHEST_PORT < digits_value 10 ds → is_port_text ds ≡ false
 above [] big = refl
 above (b ∷ ds) big = grind (arith, nat_tests)
 
 -- a number that has passed the greatest port is none
-pub is_port_text-above : (ds : List ℕ) (i n : ℕ) → list_all is_ascii_digit ds ≡ true → i < length ds → n ≡ digits_value 10 (take i ds) → 65535 < n * 10 + (get_or ds i 0 - 48) → is_port_text ds ≡ false
+pub is_port_text-above : (ds : List ℕ) (i n : ℕ) → list_all is_ascii_digit ds ≡ true → i < length ds → n ≡ digits_value 10 (take i ds) → HIGHEST_PORT < n * 10 + (get_or ds i 0 - 48) → is_port_text ds ≡ false
 is_port_text-above ds i n all within is big =
     let more = digits_value-more ds i n all within is in
     let front = digits_value-front (i + 1) ds in
@@ -62,13 +63,7 @@ positive (b ∷ ds) port n all some first whole is =
     let more : 48 < b = other_than b digit.1 first in
     omega arith
 
-digits_all : (ds : List ℕ) → list_all is_ascii_digit ds ≡ true → AllDigits 10 ds
-digits_all [] all = tt
-digits_all (d ∷ ds) all =
-    let digit = digit_value-digit d (list_all-get is_ascii_digit (d ∷ ds) 0 0 all (omega arith)) in
-    (omega arith, digits_all ds (grind (arith, common_steps)))
-
-pub above_first : (ds : List ℕ) → is_port_text ds ≡ true → (get_or ds 0 0 ≡ 48 → ⊥) × (0 < length ds) × (digits_value 10 ds < 65536)
+pub above_first : (ds : List ℕ) → is_port_text ds ≡ true → (get_or ds 0 0 ≡ 48 → ⊥) × (0 < length ds) × (digits_value 10 ds ≤ HIGHEST_PORT)
 above_first [] port = absurd (cc)
 above_first (b ∷ ds) port = (grind (arith, nat_tests), omega arith, grind (arith, nat_tests))
 
@@ -93,7 +88,7 @@ opened-is x (b ∷ bytes) rest h =
     ] in
     go (b == x) refl h
 
-port_fits : (port : ℕ) → 0 < port → port < 65536 → is_port port ≡ true
+port_fits : (port : ℕ) → 0 < port → port ≤ HIGHEST_PORT → is_port port ≡ true
 port_fits port low high = grind (arith, nat_tests)
 
 pub spells_port : (bytes after rest : List ℕ) (port : ℕ) → opened 58 bytes ≡ Some after → SpellsDigits after port rest → SpellsPort bytes port rest

@@ -1,5 +1,5 @@
 -- What the address of a page asks for.
-use Rattle.std.proofs.Common.{◌≡◌, ◌≢◌, ℕ, ◌<◌, ◌≤◌, List, [], ◌∷◌, ◌++◌, Bool, true, false, not, cond, ◌==◌, ◌&&◌, nat_le, map, filter, length, Option, Some, None, if◌then◌else◌, refl, sym, ap, ◌∙◌, subst, arith, append_assoc, append-nil, All}
+use Rattle.std.proofs.Common.{◌≡◌, ◌≢◌, ℕ, ◌<◌, ◌≤◌, List, [], ◌∷◌, ◌++◌, Bool, true, false, cond, ◌==◌, ◌&&◌, nat_le, map, filter, length, Option, Some, None, if◌then◌else◌, refl, sym, ap, ◌∙◌, subst, arith, append_assoc, append-nil, All}
 use Rattle.std.specs.Prelude.{codes, bytes_eq, unwrap_or}
 use Rattle.std.specs.List.{AllByRecursion, list_all}
 use Rattle.std.specs.Char.{is_ascii, is_ascii_digit}
@@ -10,6 +10,8 @@ use Rattle.std.proofs.lemmas.List.{map-append, length-map}
 use Rattle.std.proofs.lemmas.List.Concat.{flat_map-cons}
 use Rattle.std.proofs.lemmas.List.Elements.{All-nil, All-cons, filter-append}
 use Rattle.std.proofs.lemmas.List.Folds.{list_all-append}
+use Rattle.tpf_base.proofs.AddressBytes.{address_bytes}
+use Rattle.list_laws.proofs.Tests.{and_first, and_second}
 use Rattle.list_laws.proofs.Each.{all_append}
 use Rattle.form_urlencoded.specs.Form.{raw_pairs}
 use Rattle.form_urlencoded.proofs.FormLemmas.{raw_pairs-nil}
@@ -32,7 +34,7 @@ use Rattle.template_fill.specs.WebAddress.{IsNormal}
 use Rattle.template_fill.specs.Metadata.{Config}
 use Rattle.template_fill.specs.Configurations.{IsConfig}
 use Rattle.template_fill.specs.Answers.{Question, form_text, parameters, values_under, one_value, slot_under, page_number, rows_under, asked_by, question_of, read_as, AsksFor, ReadsAddress}
-use Rattle.template_fill.proofs.Addresses.{and_left, and_right, is_host-lower, is_lower-lower, utf8-ascii, is_ascii-address, normal_is_address, target-parts}
+use Rattle.template_fill.proofs.Addresses.{is_host-lower, is_lower-lower, utf8-ascii, is_ascii-address, normal_is_address, target-parts}
 use Rattle.template_fill.proofs.Authorities.{port_range, IsRootedPath, kept_path}
 use Rattle.template_fill.proofs.PageTexts.{places-next, places-text, more-address, mark-behind, no-rows}
 use Rattle.template_fill.proofs.Passing.{list_all-wider}
@@ -151,8 +153,8 @@ unreserved_encoded : (text : List ℕ) → list_all is_unreserved text ≡ true 
 unfolding encoded_value
 unreserved_encoded [] all = refl
 unreserved_encoded (b ∷ text) all =
-    let own : is_unreserved b ≡ true = and_left (is_unreserved b) (list_all is_unreserved text) all in
-    flat_map-cons encoded_byte b text ∙ rw own (ap (λ (bytes : List ℕ). b ∷ bytes) (unreserved_encoded text (and_right (is_unreserved b) (list_all is_unreserved text) all)))
+    let own : is_unreserved b ≡ true = and_first (is_unreserved b) (list_all is_unreserved text) all in
+    flat_map-cons encoded_byte b text ∙ rw own (ap (λ (bytes : List ℕ). b ∷ bytes) (unreserved_encoded text (and_second (is_unreserved b) (list_all is_unreserved text) all)))
 
 unreserved-ascii : (b : ℕ) → is_unreserved b ≡ true → is_ascii b ≡ true
 unreserved-ascii b own = is_ascii-address b (unreserved-address b own)
@@ -164,8 +166,8 @@ unreserved_reads text all =
 unreserved_apart : (mark : ℕ) (text : List ℕ) → is_unreserved mark ≡ false → list_all is_unreserved text ≡ true → All (λ b. b ≢ mark) text
 unreserved_apart mark [] other all = All-nil (λ b. b ≢ mark)
 unreserved_apart mark (b ∷ text) other all =
-    let own : is_unreserved b ≡ true = and_left (is_unreserved b) (list_all is_unreserved text) all in
-    All-cons (λ x. x ≢ mark) b text (λ same. clash (is_unreserved b) own (ap is_unreserved same ∙ other)) (unreserved_apart mark text other (and_right (is_unreserved b) (list_all is_unreserved text) all))
+    let own : is_unreserved b ≡ true = and_first (is_unreserved b) (list_all is_unreserved text) all in
+    All-cons (λ x. x ≢ mark) b text (λ same. clash (is_unreserved b) own (ap is_unreserved same ∙ other)) (unreserved_apart mark text other (and_second (is_unreserved b) (list_all is_unreserved text) all))
   where
     clash : (v : Bool) → v ≡ true → v ≡ false → ⊥
     clash v one other = cc
@@ -339,7 +341,7 @@ rows_asked : (reads_rows : Bool) (s : Selection) (pairs : List (List ℕ × List
 rows_asked false s pairs kept is = refl
 rows_asked true s pairs kept is = ap few_rows_of is ∙ ap (λ (passes : Bool). when passes (map row_text s.rows) >>= rows_of) (few s.rows kept.few) ∙ each_row s.rows kept.rows
 
-abbrev question_with : Slot → Slot → Slot → List Slots → ℕ → Question
+abbrev pub question_with : Slot → Slot → Slot → List Slots → ℕ → Question
 question_with subject predicate object rows page = record { selection = record { slots = record { subject = subject; predicate = predicate; object = object }; rows = rows }; page = page }
 
 asked : (reads_rows : Bool) (pairs : List (List ℕ × List ℕ)) (slots : Slots) (rows : List Slots) (k : ℕ) → slot_under (codes "subject") pairs ≡ Some slots.subject → slot_under (codes "predicate") pairs ≡ Some slots.predicate → slot_under (codes "object") pairs ≡ Some slots.object
@@ -383,9 +385,6 @@ pub record IsBase (base : Address) : Type 0 where
 
 pub base_path : (base : Address) → IsBase base → IsRootedPath base.path
 base_path base is = kept_path is.text base is.address
-
-address_bytes : (path : List ℕ) → list_all is_path_byte path ≡ true → list_all is_address_byte path ≡ true
-address_bytes path all = list_all-wider is_path_byte is_address_byte (λ b own. and_left (is_address_byte b) (not (b == 63)) own) path all
 
 pub path_bytes : (path : List ℕ) → IsRootedPath path → list_all is_path_byte path ≡ true
 path_bytes path is = rw is.slash is.bytes

@@ -1,15 +1,18 @@
 -- Explicit forms, and the slots that texts stand for.
-use Rattle.std.proofs.Common.{◌≡◌, ℕ, ◌+◌, ◌<◌, ◌≤◌, List, [], ◌∷◌, ◌++◌, Bool, true, false, not, ◌==◌, ◌&&◌, ◌||◌, Some, None, Option, Result, Ok, Err, length, take, get_or, zero, suc, refl, sym, ◌∙◌, ap, arith, add-one, lit<, Bor, length-append}
+use Rattle.std.proofs.Common.{◌≡◌, ℕ, ◌+◌, ◌<◌, ◌≤◌, List, [], ◌∷◌, ◌++◌, Bool, true, false, not, ◌==◌, ◌&&◌, ◌||◌, Some, None, Option, Result, Ok, Err, length, take, get_or, refl, sym, ◌∙◌, ap, arith, add-one, lit<, Bor, length-append}
 use Rattle.std.specs.Prelude.{IfErr, MatchOption}
 use Rattle.std.specs.List.{list_all}
-use Rattle.std.specs.Str.{IsUtf8, IsAscii}
-use Rattle.std.proofs.lemmas.Str.{IsUtf8-nil, IsUtf8-append, IsUtf8-from_ascii}
+use Rattle.std.specs.Str.{IsUtf8}
+use Rattle.std.proofs.lemmas.Str.{IsUtf8-nil, IsUtf8-append}
 use Rattle.std.proofs.lemmas.Bool.Decides.{nat_tests}
 use Rattle.std.proofs.lemmas.List.{take-append-drop}
 use Rattle.std.proofs.lemmas.Str.Pattern.{NoCharPasses-char, drop_at_char}
 use Rattle.std.specs.Str.Pattern.{RFindsChar, SplitsAroundMatch}
+use Rattle.list_laws.proofs.Bytes.{cons_utf8}
+use Rattle.rdf_terms.proofs.Tags.{lower_all}
+use Rattle.list_laws.proofs.Tests.{and_first, and_second}
 use Rattle.rdf_terms.specs.Iri.{is_iri, is_iri_byte, is_letter}
-use Rattle.rdf_terms.specs.Tag.{is_tag, is_lower_tag, lower, groups, put_first, is_group, is_letter_or_digit, is_upper}
+use Rattle.rdf_terms.specs.Tag.{is_tag, is_lower_tag, groups, put_first, is_group, is_letter_or_digit, is_upper}
 use Rattle.rdf_terms.specs.Datatype.{is_xsd_string, is_lang_string}
 use Rattle.rdf_terms.specs.declared.term.Term.{Term}
 use Rattle.rdf_terms.specs.declared.term.Term.TheVariants.{Iri, Blank, Literal}
@@ -24,9 +27,7 @@ use Rattle.template_fill.specs.declared.fault.ValueFault.{ValueFault}
 use Rattle.template_fill.specs.declared.fault.ValueFault.TheVariants as faults
 use Rattle.template_fill.specs.Explicit.{Gives, ReadsBack, FormsAreText, FormsAreShort, suffix, explicit_form, cut_last, marked_literal, suffixed_literal, read_literal, read_iri, fixed, slot_of}
 use Rattle.template_fill.proofs.Passing.{list_all-get, list_all-wider}
-use Rattle.std.specs.Char.{to_ascii_lowercase}
 use Rattle.std.proofs.lemmas.Bool.{and_from, not-true}
-use Rattle.template_fill.proofs.Addresses.{and_left, and_right}
 
 other : (b c : ℕ) → (b ≡ c → ⊥) → (b == c) ≡ false
 other b c h = grind (arith, nat_tests)
@@ -101,8 +102,8 @@ is_tag_byte b = is_letter_or_digit b || (b == 45)
 
 put-first : (t : Bool) (b : ℕ) (p : List ℕ × List (List ℕ)) → list_all is_letter_or_digit (put_first t b p).0 ≡ true → list_all (list_all is_letter_or_digit) (put_first t b p).1 ≡ true → (t ≡ true → b ≡ 45) → (is_tag_byte b ≡ true) × (list_all is_letter_or_digit p.0 ≡ true) × (list_all (list_all is_letter_or_digit) p.1 ≡ true)
 unfolding is_tag_byte
-put-first true b p first more hyphen = (let is : b ≡ 45 = hyphen refl in ap is_tag_byte is, and_left (list_all is_letter_or_digit p.0) _ more, and_right (list_all is_letter_or_digit p.0) _ more)
-put-first false b p first more hyphen = (or_left (is_letter_or_digit b) (b == 45) (and_left (is_letter_or_digit b) _ first), and_right (is_letter_or_digit b) _ first, more)
+put-first true b p first more hyphen = (let is : b ≡ 45 = hyphen refl in ap is_tag_byte is, and_first (list_all is_letter_or_digit p.0) _ more, and_second (list_all is_letter_or_digit p.0) _ more)
+put-first false b p first more hyphen = (or_left (is_letter_or_digit b) (b == 45) (and_first (is_letter_or_digit b) _ first), and_second (is_letter_or_digit b) _ first, more)
 
 groups-bytes : (bytes : List ℕ) → list_all is_letter_or_digit (groups bytes).0 ≡ true → list_all (list_all is_letter_or_digit) (groups bytes).1 ≡ true → list_all is_tag_byte bytes ≡ true
 groups-bytes [] first more = refl
@@ -119,49 +120,40 @@ group-bytes p q wider (b ∷ group) h = list_all-wider p q wider (b ∷ group) h
 
 tag-bytes : (tag : List ℕ) → is_tag tag ≡ true → list_all is_tag_byte tag ≡ true
 unfolding is_tag
-tag-bytes tag h = groups-bytes tag (group-bytes is_letter is_letter_or_digit letters (groups tag).0 (and_left (is_group is_letter (groups tag).0) _ h)) (list_all-wider (is_group is_letter_or_digit) (list_all is_letter_or_digit) (λ group own. group-bytes is_letter_or_digit is_letter_or_digit (λ b own. own) group own) (groups tag).1 (and_right (is_group is_letter (groups tag).0) _ h))
+tag-bytes tag h = groups-bytes tag (group-bytes is_letter is_letter_or_digit letters (groups tag).0 (and_first (is_group is_letter (groups tag).0) _ h)) (list_all-wider (is_group is_letter_or_digit) (list_all is_letter_or_digit) (λ group own. group-bytes is_letter_or_digit is_letter_or_digit (λ b own. own) group own) (groups tag).1 (and_second (is_group is_letter (groups tag).0) _ h))
 
 quote-tag : is_tag_byte 34 ≡ false
 unfolding is_tag_byte
 quote-tag = refl
 
-lower-byte : (b : ℕ) → not (is_upper b) ≡ true → to_ascii_lowercase b ≡ b
-lower-byte b h = grind (arith, nat_tests)
-
 tag-is : (tag : List ℕ) → is_lower_tag tag ≡ true → is_tag tag ≡ true
 unfolding is_lower_tag
-tag-is tag h = and_left (is_tag tag) _ h
+tag-is tag h = and_first (is_tag tag) _ h
 
 tag-lower : (tag : List ℕ) → is_lower_tag tag ≡ true → list_all (λ b. not (is_upper b)) tag ≡ true
 unfolding is_lower_tag
-tag-lower tag h = and_right (is_tag tag) _ h
+tag-lower tag h = and_second (is_tag tag) _ h
 
 letter-not : (b c : ℕ) → is_letter c ≡ false → is_letter b ≡ true → b ≡ c → ⊥
 letter-not b c fails letter is = let same : is_letter b ≡ false = ap is_letter is ∙ fails in cc
 
-lower-same : (tag : List ℕ) → list_all (λ b. not (is_upper b)) tag ≡ true → lower tag ≡ tag
-lower-same [] h = refl
-lower-same (b ∷ tag) h =
-    let own = and_left (not (is_upper b)) _ h in
-    rw (lower-byte b own, lower-same tag (and_right (not (is_upper b)) _ h)) refl
-
 suffix-none : (kind : Kind) → IsValidKind kind → cut_last 34 (suffix kind) ≡ None
 suffix-none Plain h = refl
 suffix-none (Typed datatype) h =
-    let iri = and_left (is_iri datatype) _ (and_left (is_iri datatype && not (is_xsd_string datatype)) _ h.0) in
-    let bytes = no_quote-last is_iri_byte refl datatype (and_left (list_all is_iri_byte datatype) _ iri) in
+    let iri = and_first (is_iri datatype) _ (and_first (is_iri datatype && not (is_xsd_string datatype)) _ h.0) in
+    let bytes = no_quote-last is_iri_byte refl datatype (and_first (list_all is_iri_byte datatype) _ iri) in
     rw bytes refl
 suffix-none (Tagged tag) h = rw (no_quote-last is_tag_byte quote-tag tag (tag-bytes tag (tag-is tag h))) refl
 
 literal-back : (form : List ℕ) (kind : Kind) → IsValidKind kind → suffixed_literal form (suffix kind) ≡ Ok (Literal form kind)
 literal-back form Plain h = refl
 literal-back form (Typed datatype) h =
-    let both = and_left (is_iri datatype && not (is_xsd_string datatype)) _ h.0 in
-    let iri = and_left (is_iri datatype) _ both in
-    let plain = not-true (is_xsd_string datatype) (and_right (is_iri datatype) _ both) in
-    let lang = not-true (is_lang_string datatype) (and_right (is_iri datatype && not (is_xsd_string datatype)) _ h.0) in
+    let both = and_first (is_iri datatype && not (is_xsd_string datatype)) _ h.0 in
+    let iri = and_first (is_iri datatype) _ both in
+    let plain = not-true (is_xsd_string datatype) (and_second (is_iri datatype) _ both) in
+    let lang = not-true (is_lang_string datatype) (and_second (is_iri datatype && not (is_xsd_string datatype)) _ h.0) in
     rw (lang, iri, plain) refl
-literal-back form (Tagged tag) h = rw (tag-is tag h, lower-same tag (tag-lower tag h)) refl
+literal-back form (Tagged tag) h = rw (tag-is tag h, lower_all tag (tag-lower tag h)) refl
 
 unmarked : (b : ℕ) (rest : List ℕ) → (b == 63) ≡ false → (b == 34) ≡ false → slot_of (b ∷ rest) ≡ fixed (read_iri (b ∷ rest))
 unmarked b rest free quote = rw (free, quote) refl
@@ -172,7 +164,7 @@ valid-iri text h = rw h refl
 iri-back : (text : List ℕ) → is_iri text ≡ true → slot_of text ≡ Ok (Fixed (Iri text))
 iri-back [] h = absurd (cc)
 iri-back (b ∷ rest) h =
-    let letter = and_left (is_letter b) _ (and_right (list_all is_iri_byte (b ∷ rest)) _ h) in
+    let letter = and_first (is_letter b) _ (and_second (list_all is_iri_byte (b ∷ rest)) _ h) in
     unmarked b rest (other b 63 (letter-not b 63 refl letter)) (other b 34 (letter-not b 34 refl letter)) ∙ ap fixed (valid-iri (b ∷ rest) h)
 
 read-back : (form : List ℕ) (kind : Kind) → IsValidKind kind → read_literal (form ++ 34 ∷ suffix kind) ≡ Ok (Literal form kind)
@@ -191,28 +183,21 @@ tag-byte-low : (b : ℕ) → is_tag_byte b ≡ true → b < 128
 unfolding is_tag_byte
 tag-byte-low b h = grind (arith, h)
 
-cons-text : (b : ℕ) (text : List ℕ) → b < 128 → IsUtf8 text → IsUtf8 (b ∷ text)
-cons-text b text h u = IsUtf8-append (b ∷ []) text (IsUtf8-from_ascii (b ∷ []) (one-ascii b h)) u
-  where
-    one-ascii : (b : ℕ) → b < 128 → IsAscii (b ∷ [])
-    one-ascii b h zero = h
-    one-ascii b h (suc i) = omega arith
-
 tag-text : (tag : List ℕ) → list_all is_tag_byte tag ≡ true → IsUtf8 tag
 tag-text [] h = IsUtf8-nil
-tag-text (b ∷ tag) h = cons-text b tag (tag-byte-low b (and_left (is_tag_byte b) _ h)) (tag-text tag (and_right (is_tag_byte b) _ h))
+tag-text (b ∷ tag) h = cons_utf8 b tag (tag-byte-low b (and_first (is_tag_byte b) _ h)) (tag-text tag (and_second (is_tag_byte b) _ h))
 
 suffix-text : (kind : Kind) → IsValidKind kind → IsUtf8 (suffix kind)
 suffix-text Plain h = IsUtf8-nil
-suffix-text (Typed datatype) h = cons-text 94 (94 ∷ datatype) (omega arith) (cons-text 94 datatype (omega arith) h.1)
-suffix-text (Tagged tag) h = cons-text 64 tag (omega arith) (tag-text tag (tag-bytes tag (tag-is tag h)))
+suffix-text (Typed datatype) h = cons_utf8 94 (94 ∷ datatype) (omega arith) (cons_utf8 94 datatype (omega arith) h.1)
+suffix-text (Tagged tag) h = cons_utf8 64 tag (omega arith) (tag-text tag (tag-bytes tag (tag-is tag h)))
 
 pub forms_are_text : FormsAreText
 forms_are_text (Iri text) valid = valid.1
 forms_are_text (Blank label) valid = IsUtf8-nil
 forms_are_text (Literal form kind) valid =
-    cons-text 34 (form ++ 34 ∷ suffix kind) (omega arith)
-    (IsUtf8-append form (34 ∷ suffix kind) valid.0 (cons-text 34 (suffix kind) (omega arith) (suffix-text kind valid.1)))
+    cons_utf8 34 (form ++ 34 ∷ suffix kind) (omega arith)
+    (IsUtf8-append form (34 ∷ suffix kind) valid.0 (cons_utf8 34 (suffix kind) (omega arith) (suffix-text kind valid.1)))
 
 -- ---- and short
 

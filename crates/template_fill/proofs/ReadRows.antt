@@ -6,6 +6,7 @@ use Rattle.std.proofs.lemmas.Bool.Decides.{nat_tests}
 use Rattle.std.proofs.lemmas.Str.{is_utf8-from_IsUtf8, IsUtf8-from_is_utf8, IsUtf8-nil}
 use Rattle.std.proofs.lemmas.List.Elements.{All-nil}
 use Rattle.std.proofs.lemmas.List.Splits.{slice_split_none, slice_split_at}
+use Rattle.std.proofs.lemmas.Bool.{false≢true}
 use Rattle.percent_encoding.specs.Percent.{percent_decode}
 use Rattle.percent_encoding.specs.AsciiSet.{should_percent_encode}
 use Rattle.percent_encoding.proofs.PercentLemmas.{IsByte, All-percent_encode, round_trip}
@@ -22,9 +23,6 @@ use Rattle.template_fill.proofs.Sections.{sections-cut}
 use Rattle.template_fill.specs.Templates.{before, after, sections_after}
 use Rattle.template_fill.specs.Rows.{row_place, row_text, accepted, slot_in_row, three_of, places_between, row_of, ReadsRows}
 
-comma : ℕ → Bool
-comma b = b == 44
-
 no_comma : (b : ℕ) → b ≢ 44 → (b == 44) ≡ false
 no_comma b h = grind (arith, nat_tests)
 
@@ -33,9 +31,6 @@ unfolding should_percent_encode
 value_apart text small =
     subst (All (λ b. (b == 44) ≡ false)) (same_text text small)
     (All-percent_encode (λ b. (b == 44) ≡ false) VALUE text (λ b is. no_comma b (λ same. false≢true (sym is ∙ ap (should_percent_encode VALUE) same))) (λ b digit. grind (arith, nat_tests)))
-  where
-    false≢true : ◌≡◌ {A = Bool} false true → ⊥
-    false≢true h = cc
 
 place_apart : (slot : Slot) → IsKeptSlot slot → All (λ b. (b == 44) ≡ false) (row_place slot)
 place_apart Any kept = All-nil (λ b. (b == 44) ≡ false)

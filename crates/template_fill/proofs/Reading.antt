@@ -1,5 +1,5 @@
 -- The reader of addresses reads what an address is, and nothing else.
-use Rattle.std.proofs.Common.{◌≡◌, ℕ, ◌^◌, ◌<◌, List, [], ◌∷◌, ◌++◌, Bool, true, false, not, ◌==◌, ◌||◌, cond, nat_le, Some, None, Option, length, get_or, refl, sym, ◌∙◌, ap, subst, arith, inl, inr, one-add}
+use Rattle.std.proofs.Common.{◌≡◌, ℕ, ◌^◌, ◌<◌, ◌≤◌, List, [], ◌∷◌, ◌++◌, Bool, true, false, not, ◌==◌, ◌||◌, cond, nat_le, Some, None, Option, length, get_or, refl, sym, ◌∙◌, ap, subst, arith, inl, inr, one-add}
 use Rattle.std.specs.Prelude.{codes, decimal}
 use Rattle.std.specs.List.{list_all, prefix_len}
 use Rattle.std.specs.Char.{is_ascii_digit}
@@ -8,22 +8,15 @@ use Rattle.std.proofs.lemmas.List.Folds.{list_all-append}
 use Rattle.std.proofs.lemmas.Bool.Decides.{nat_tests}
 use Rattle.std.proofs.lemmas.Fmt.{decimal_is_IsNumeral, first_decimal}
 use Rattle.std.proofs.Math.Seq.{drop-append_seam, take-append_seam}
+use Rattle.tpf_base.proofs.AddressBytes.{address_bytes, query_bytes}
+use Rattle.list_laws.proofs.Tests.{and_first, and_second}
 use Rattle.tpf_base.specs.Addresses.{Address, IsAddress, IsPortTyped, is_host_byte, is_host, is_address_byte, is_path_byte, is_path, is_query_part, is_port, query_text}
-use Rattle.template_fill.specs.ReadAddress.{Spells, ◌>>=◌, when, after_scheme, is_port_text, port_part, is_rest, rooted, path_of, query_of, Spelled, IsSpelled, read_spelled, normal, read_address}
-use Rattle.template_fill.proofs.Addresses.{and_left, and_right, target-parts, all_digits-decimal, all_host, is_path_byte-path, is_query_part-query, not_empty, four}
+use Rattle.tpf_base.specs.declared.limits.TheConstants.{HIGHEST_PORT}
+use Rattle.template_fill.specs.ReadAddress.{Spells, after_scheme, is_port_text, port_part, is_rest, rooted, path_of, query_of, Spelled, IsSpelled, read_spelled, normal, read_address}
+use Rattle.template_fill.proofs.Addresses.{target-parts, all_digits-decimal, all_host, is_path_byte-path, is_query_part-query, not_empty, four}
 use Rattle.template_fill.specs.WebAddress.{IsNoAddress}
 use Rattle.std.specs.Option.{option_map}
 use Rattle.std.proofs.lemmas.Bool.{and_from, not-true}
-
--- ---- parts of a do
-
-pub when-inv : {A : Type 0} (b : Bool) (x y : A) → when b x ≡ Some y → (b ≡ true) × (x ≡ y)
-when-inv true x y h = (refl, cc)
-when-inv false x y h = absurd (cc)
-
-pub bind-inv : {A B : Type 0} (o : Option A) (f : A → Option B) (y : B) → (o >>= f) ≡ Some y → (x : A) × (o ≡ Some x) × (f x ≡ Some y)
-bind-inv None f y h = absurd (cc)
-bind-inv (Some x) f y h = (x, refl, h)
 
 -- ---- fronts
 
@@ -31,7 +24,7 @@ bind-inv (Some x) f y h = (x, refl, h)
 pub prefix_len-front : (p : ℕ → Bool) (xs ys : List ℕ) → list_all p xs ≡ true → prefix_len p ys ≡ 0 → prefix_len p (xs ++ ys) ≡ length xs
 prefix_len-front p [] ys all none = none
 prefix_len-front p (x ∷ xs) ys all none =
-    rw (and_left (p x) _ all, prefix_len-front p xs ys (and_right (p x) _ all) none) (one-add (length xs))
+    rw (and_first (p x) _ all, prefix_len-front p xs ys (and_second (p x) _ all) none) (one-add (length xs))
 
 -- ---- what a complete address is read as
 
@@ -45,21 +38,13 @@ pub record IsTail (tail : List ℕ) : Type 0 where
   pub host : prefix_len is_host_byte tail ≡ 0
   pub digit : prefix_len is_ascii_digit tail ≡ 0
 
-path_bytes : (path : List ℕ) → list_all is_path_byte path ≡ true → list_all is_address_byte path ≡ true
-path_bytes [] all = refl
-path_bytes (b ∷ path) all = and_from (is_address_byte b) _ (and_left (is_address_byte b) _ (and_left (is_path_byte b) _ all)) (path_bytes path (and_right (is_path_byte b) _ all))
-
-query_bytes : (query : Option (List ℕ)) → is_query_part query ≡ true → list_all is_address_byte (query_text query) ≡ true
-query_bytes None h = refl
-query_bytes (Some query) h = h
-
 pub is_tail : (path : List ℕ) (query : Option (List ℕ)) → is_path path ≡ true → is_query_part query ≡ true → IsTail (path ++ query_text query)
 is_tail [] None p q = record { rest = refl; host = refl; digit = refl }
 is_tail [] (Some query) p q = record { rest = q; host = refl; digit = refl }
 is_tail (b ∷ path) query p q =
-    let slash : b ≡ 47 = grind (arith, nat_tests, and_left (b == 47) _ p) in
+    let slash : b ≡ 47 = grind (arith, nat_tests, and_first (b == 47) _ p) in
     let bytes : list_all is_address_byte (path ++ query_text query) ≡ true =
-    rw (list_all-append is_address_byte path (query_text query), path_bytes path (and_right (b == 47) _ p)) (query_bytes query q) in
+    rw (list_all-append is_address_byte path (query_text query), address_bytes path (and_second (b == 47) _ p)) (query_bytes query q) in
     rw slash (record { rest = bytes; host = refl; digit = refl })
 
 -- the path and the query of what follows an authority
@@ -67,21 +52,21 @@ pub parts-target : (path : List ℕ) (query : Option (List ℕ)) → list_all is
 parts-target [] None all = (refl, refl)
 parts-target [] (Some query) all = (refl, refl)
 parts-target (b ∷ path) query all =
-    let more = parts-target path query (and_right (is_path_byte b) _ all) in
-    let own = and_right (is_address_byte b) (not (b == 63)) (and_left (is_path_byte b) _ all) in
+    let more = parts-target path query (and_second (is_path_byte b) _ all) in
+    let own = and_second (is_address_byte b) (not (b == 63)) (and_first (is_path_byte b) _ all) in
     let no : (b == 63) ≡ false = not-true (b == 63) own in
     (rw (no, more.0) refl, rw (no, more.1) refl)
 
 -- ---- ports
 
-port_text_of : (digits : List ℕ) → 48 < get_or digits 0 0 → digits_value 10 digits < 65536 → is_port_text digits ≡ true
+port_text_of : (digits : List ℕ) → 48 < get_or digits 0 0 → digits_value 10 digits ≤ HIGHEST_PORT → is_port_text digits ≡ true
 port_text_of [] first small = absurd (omega arith)
 port_text_of (b ∷ digits) first small = and_from (not (b == 48)) _ (grind (arith, nat_tests)) (grind (arith, nat_tests))
 
 pub is_port_text-decimal : (port : ℕ) → is_port port ≡ true → is_port_text (decimal port) ≡ true
 is_port_text-decimal port h =
-    let low : 0 < port = grind (arith, nat_tests, and_left (nat_le 1 port) _ h) in
-    let high : port < 65536 = grind (arith, nat_tests, and_right (nat_le 1 port) _ h) in
+    let low : 0 < port = grind (arith, nat_tests, and_first (nat_le 1 port) _ h) in
+    let high : port ≤ HIGHEST_PORT = grind (arith, nat_tests, and_second (nat_le 1 port) _ h) in
     let small : port < 2 ^ 64 = omega arith in
     let numeral = decimal_is_IsNumeral port small in
     port_text_of (decimal port) (first_decimal port low small) (rw numeral.1 high)
@@ -90,14 +75,14 @@ no_port : (tail : List ℕ) → IsTail tail → port_part tail ≡ Some (80, tai
 unfolding port_part
 no_port [] t = refl
 no_port (b ∷ tail) t =
-    let mark = and_left ((b == 47) || (b == 63)) _ t.rest in
+    let mark = and_first ((b == 47) || (b == 63)) _ t.rest in
     let other : (b == 58) ≡ false = grind (arith, nat_tests) in
     rw other refl
 
 with_port : (port : ℕ) (tail : List ℕ) → is_port port ≡ true → IsTail tail → port_part (58 ∷ (decimal port ++ tail)) ≡ Some (port, tail)
 unfolding port_part
 with_port port tail h t =
-    let high : port < 65536 = grind (arith, nat_tests, and_right (nat_le 1 port) _ h) in
+    let high : port ≤ HIGHEST_PORT = grind (arith, nat_tests, and_second (nat_le 1 port) _ h) in
     let small : port < 2 ^ 64 = omega arith in
     let len = prefix_len-front is_ascii_digit (decimal port) tail (all_digits-decimal port small) t.digit in
     let value = (decimal_is_IsNumeral port small).1 in
@@ -130,8 +115,8 @@ query_rest rest all = record { path = refl; path_kept = refl; query = all; query
 pub splits_rest : (rest : List ℕ) → is_rest rest ≡ true → SplitsRest rest
 splits_rest [] h = record { path = refl; path_kept = refl; query = refl; query_kept = refl }
 splits_rest (b ∷ rest) h =
-    let mark = and_left ((b == 47) || (b == 63)) _ h in
-    let all = and_right ((b == 47) || (b == 63)) _ h in
+    let mark = and_first ((b == 47) || (b == 63)) _ h in
+    let all = and_second ((b == 47) || (b == 63)) _ h in
     let go : (t : Bool) → (b == 47) ≡ t → SplitsRest (b ∷ rest) =
     λ t. elim t as (λ v. (b == 47) ≡ v → SplitsRest (b ∷ rest)) [
       | true ↦ λ yes. let is : 47 ≡ b = grind (arith, nat_tests) in subst (λ (x : ℕ). SplitsRest (x ∷ rest)) is (slash_rest rest all)
@@ -174,14 +159,14 @@ pub roots_path : (path : List ℕ) (query : Option (List ℕ)) → is_path path 
 roots_path [] None h = record { path = refl; query = refl }
 roots_path [] (Some query) h = record { path = refl; query = refl }
 roots_path (b ∷ path) query h =
-    let is : 47 ≡ b = grind (arith, nat_tests, and_left (b == 47) _ h) in
-    subst (λ (x : ℕ). RootsPath (x ∷ path) query) is (roots_slash path query (and_right (b == 47) _ h))
+    let is : 47 ≡ b = grind (arith, nat_tests, and_first (b == 47) _ h) in
+    subst (λ (x : ℕ). RootsPath (x ∷ path) query) is (roots_slash path query (and_second (b == 47) _ h))
 
-no_host_front : (typed tail : List ℕ) (port : ℕ) → IsPortTyped typed port → IsTail tail → prefix_len is_host_byte (typed ++ tail) ≡ 0
+pub no_host_front : (typed tail : List ℕ) (port : ℕ) → IsPortTyped typed port → IsTail tail → prefix_len is_host_byte (typed ++ tail) ≡ 0
 no_host_front typed tail port (inl h) t = rw h.0 t.host
 no_host_front typed tail port (inr h) t = rw h.0 refl
 
-read_of : (host typed tail : List ℕ) (port : ℕ) → is_host host ≡ true → IsPortTyped typed port → IsTail tail → read_spelled (codes "http://" ++ (host ++ (typed ++ tail))) ≡ Some (record { host = host; port = port; rest = tail })
+pub read_of : (host typed tail : List ℕ) (port : ℕ) → is_host host ≡ true → IsPortTyped typed port → IsTail tail → read_spelled (codes "http://" ++ (host ++ (typed ++ tail))) ≡ Some (record { host = host; port = port; rest = tail })
 unfolding read_spelled
 read_of host typed tail port h p t =
     let len = prefix_len-front is_host_byte host (typed ++ tail) (all_host host h) (no_host_front typed tail port p t) in

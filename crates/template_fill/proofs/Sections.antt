@@ -5,15 +5,15 @@ use Rattle.std.specs.Option.{option_map}
 use Rattle.std.proofs.lemmas.List.Folds.{list_all-append}
 use Rattle.std.proofs.lemmas.Bool.Decides.{nat_tests}
 use Rattle.std.proofs.lemmas.Bool.{agree_below_at, and_from}
+use Rattle.list_laws.proofs.Options.{when_some}
 use Rattle.tpf_base.specs.Addresses.{is_address_byte}
 use Rattle.template_fill.specs.ReadAddress.{◌>>=◌}
 use Rattle.template_fill.specs.Templates.{before, after, sections_after, is_name_byte, is_word, is_name, names_of, Part, is_part, shape_of, part_of, parts_of}
 use Rattle.template_fill.specs.declared.part.Operator.{Operator}
 use Rattle.template_fill.proofs.Passing.{list_all-wider}
-use Rattle.template_fill.proofs.Addresses.{and_left, and_right, is_ascii-address}
-use Rattle.template_fill.proofs.Reading.{when-inv}
+use Rattle.template_fill.proofs.Addresses.{is_ascii-address}
 use Rattle.std.specs.Char.{is_ascii}
-use Rattle.list_laws.proofs.Tests.{implied}
+use Rattle.list_laws.proofs.Tests.{implied, and_first, and_second}
 
 pub sections-cut : (x : ℕ) (bytes : List ℕ) → slice_split (λ b. b == x) bytes ≡ before x bytes ∷ sections_after x (after x bytes)
 sections-cut x [] = refl
@@ -57,10 +57,10 @@ word_bytes [] h = refl
 word_bytes (b ∷ word) h = h
 
 onto-first : (p : ℕ → Bool) (b : ℕ) (sections : List (List ℕ)) → list_all (list_all p) (onto_first b sections) ≡ true → (p b ≡ true) × (list_all (list_all p) sections ≡ true)
-onto-first p b [] h = (and_left (p b) _ (and_left (p b && true) _ h), refl)
+onto-first p b [] h = (and_first (p b) _ (and_first (p b && true) _ h), refl)
 onto-first p b (section ∷ sections) h =
-    let own = and_left (p b && list_all p section) _ h in
-    (and_left (p b) _ own, and_from (list_all p section) _ (and_right (p b) _ own) (and_right (p b && list_all p section) _ h))
+    let own = and_first (p b && list_all p section) _ h in
+    (and_first (p b) _ own, and_from (list_all p section) _ (and_second (p b) _ own) (and_second (p b && list_all p section) _ h))
 
 -- bytes of sections that pass, with the mark between them, pass
 joined : (p q : ℕ → Bool) (x : ℕ) → ((b : ℕ) → p b ≡ true → q b ≡ true) → q x ≡ true → (bytes : List ℕ) → list_all (list_all p) (slice_split (λ b. b == x) bytes) ≡ true → list_all q bytes ≡ true
@@ -83,7 +83,7 @@ name_ascii name h = list_all-wider is_address_byte is_ascii is_ascii-address nam
 pub names_of-bytes : (text : List ℕ) (names : List (List ℕ)) → names_of text ≡ Some names → list_all (list_all is_address_byte) names ≡ true
 unfolding names_of
 names_of-bytes text names h =
-    let is = when-inv (list_all is_name (slice_split (λ b. b == 44) text)) (slice_split (λ b. b == 44) text) names h in
+    let is = when_some (list_all is_name (slice_split (λ b. b == 44) text)) (slice_split (λ b. b == 44) text) names h in
     rw (← is.1) (list_all-wider is_name (list_all is_address_byte) name_bytes (slice_split (λ b. b == 44) text) is.0)
 
 and_false : (b : Bool) → b && false ≡ false

@@ -1,5 +1,5 @@
 -- Names and values as they are written in an address, read again.
-use Rattle.std.proofs.Common.{◌≡◌, ◌≢◌, ℕ, ◌+◌, ◌/◌, ◌<◌, List, [], ◌∷◌, ◌++◌, Bool, true, false, cond, ◌&&◌, ltb, length, Option, Some, None, refl, sym, ap, ◌∙◌, subst, arith, append-nil, length-append, All}
+use Rattle.std.proofs.Common.{◌≡◌, ◌≢◌, ℕ, ◌+◌, ◌/◌, ◌<◌, List, [], ◌∷◌, ◌++◌, true, false, cond, ltb, length, Option, Some, None, refl, sym, ap, ◌∙◌, subst, arith, append-nil, length-append, All}
 use Rattle.std.specs.List.{AllByRecursion}
 use Rattle.std.specs.Str.{IsUtf8}
 use Rattle.std.specs.Str.Lossy.{utf8_lossy}
@@ -7,6 +7,7 @@ use Rattle.std.proofs.lemmas.Bool.{cond_both, false≢true}
 use Rattle.std.proofs.lemmas.Bool.Decides.{nat_tests}
 use Rattle.std.proofs.lemmas.Str.{utf8_lossy-IsUtf8}
 use Rattle.std.proofs.lemmas.List.Elements.{All-nil, All-cons, All-append}
+use Rattle.list_laws.proofs.Tests.{and_first, and_second}
 use lib.Utf8.{scalar, scalars, next, encode, encodes}
 use Rattle.percent_encoding.specs.Percent.{percent_decode}
 use Rattle.percent_encoding.specs.AsciiSet.{should_percent_encode}
@@ -41,15 +42,7 @@ scalar_below c is = grind (arith, nat_tests)
 encodes_bytes : (cs : List ℕ) → scalars cs ≡ true → All IsByte (encodes cs)
 encodes_bytes [] is = All-nil IsByte
 encodes_bytes (c ∷ cs) is =
-    All-append IsByte (encode c) (encodes cs) (encode_bytes c (scalar_below c (and_left (scalar c) (scalars cs) is))) (encodes_bytes cs (and_right (scalar c) (scalars cs) is))
-  where
-    and_left : (a b : Bool) → a && b ≡ true → a ≡ true
-    and_left true b h = refl
-    and_left false b h = h
-
-    and_right : (a b : Bool) → a && b ≡ true → b ≡ true
-    and_right true b h = h
-    and_right false b h = absurd (cc)
+    All-append IsByte (encode c) (encodes cs) (encode_bytes c (scalar_below c (and_first (scalar c) (scalars cs) is))) (encodes_bytes cs (and_second (scalar c) (scalars cs) is))
 
 pub utf8_bytes : (text : List ℕ) → IsUtf8 text → All IsByte text
 utf8_bytes text is = subst (All IsByte) is.1.1 (encodes_bytes is.0 is.1.0)

@@ -2,6 +2,7 @@
 use Rattle.std.specs.Prelude.{ℕ, ◌≡◌, ◌+◌, ◌≤◌, ◌==◌, List, [], ◌∷◌, ◌++◌, length, Option, Some, None, Result, Ok, Err, if◌then◌else◌}
 use Rattle.std.specs.Option.{option_map}
 use Rattle.std.specs.Str.{IsUtf8}
+pub use Rattle.list_laws.specs.Options.{first_of}
 use Rattle.rdf_terms.specs.Iri.{is_iri}
 use Rattle.rdf_terms.specs.Tag.{is_tag, lower}
 use Rattle.rdf_terms.specs.Kinds.{typed_kind}
@@ -30,11 +31,6 @@ abbrev pub explicit_form : Term → List ℕ
 explicit_form (Iri text) = text
 explicit_form (Blank label) = []
 explicit_form (Literal form kind) = 34 ∷ (form ++ 34 ∷ suffix kind)
-
--- the first that there is
-abbrev pub first_of : {A : Type 0} → Option A → Option A → Option A
-first_of None y = y
-first_of (Some x) y = Some x
 
 -- what stands before the last x, and what stands after it
 abbrev pub cut_last : ℕ → List ℕ → Option (List ℕ × List ℕ)

@@ -1,29 +1,22 @@
 -- Reading an address from the left: a function that gives the address of a text, or nothing.
-use Rattle.std.specs.Prelude.{ℕ, ◌≡◌, ◌<◌, Bool, true, false, not, ◌==◌, ◌&&◌, ◌||◌, nat_eq, nat_lt, List, [], ◌∷◌, ◌++◌, length, drop, codes, Option, Some, None, if◌then◌else◌, decimal}
+use Rattle.std.specs.Prelude.{ℕ, ◌≡◌, ◌<◌, ◌≤◌, Bool, true, false, not, ◌==◌, ◌&&◌, ◌||◌, nat_eq, nat_le, List, [], ◌∷◌, ◌++◌, length, drop, codes, Option, Some, None, if◌then◌else◌, decimal}
 use Rattle.std.specs.List.{list_all, take_while, starts_with}
 use Rattle.std.specs.Option.{option_map}
 use Rattle.std.specs.Char.{is_ascii_digit}
 use Rattle.std.specs.Str.{str_to_ascii_lowercase}
 use Rattle.std.specs.Str.Parse.{digits_value}
+pub use Rattle.list_laws.specs.Options.{◌>>=◌, when}
 use Rattle.tpf_base.specs.Addresses.{Address, IsPortTyped, is_host_byte, is_host, is_address_byte}
-
-infixl 10 ◌>>=◌
-abbrev pub ◌>>=◌ : {A B : Type 0} → Option A → (A → Option B) → Option B
-None >>= f = None
-(Some x) >>= f = f x
-
--- a value, where a test passes
-abbrev pub when : {A : Type 0} → Bool → A → Option A
-when b x = if b then Some x else None
+use Rattle.tpf_base.specs.declared.limits.TheConstants.{HIGHEST_PORT}
 
 -- what stands after http://
 unfoldable pub after_scheme : List ℕ → Option (List ℕ)
 after_scheme text = when (starts_with nat_eq text (codes "http://")) (drop 7 text)
 
--- digits without a leading zero, up to 65535
+-- digits without a leading zero, up to HIGHEST_PORT
 abbrev pub is_port_text : List ℕ → Bool
 is_port_text [] = false
-is_port_text (b ∷ digits) = not (b == 48) && nat_lt (digits_value 10 (b ∷ digits)) 65536
+is_port_text (b ∷ digits) = not (b == 48) && nat_le (digits_value 10 (b ∷ digits)) HIGHEST_PORT
 
 -- what stands after an x at the front
 abbrev pub opened : ℕ → List ℕ → Option (List ℕ)
@@ -71,7 +64,7 @@ pub record Spelled : Type 0 where
 pub record IsSpelled (s : Spelled) : Type 0 where
   pub host : is_host s.host ≡ true
   pub low : 0 < s.port
-  pub high : s.port < 65536
+  pub high : s.port ≤ HIGHEST_PORT
   pub rest : is_rest s.rest ≡ true
 
 -- the text is the scheme, the host, a port as it is written, and the rest
@@ -86,13 +79,13 @@ pub record SpellsPort (bytes : List ℕ) (port : ℕ) (rest : List ℕ) : Type 0
   pub is_bytes : bytes ≡ typed_port ++ rest
   pub typed : IsPortTyped typed_port port
   pub low : 0 < port
-  pub high : port < 65536
+  pub high : port ≤ HIGHEST_PORT
 
 -- bytes are the digits of a port, and a rest
 pub record SpellsDigits (bytes : List ℕ) (port : ℕ) (rest : List ℕ) : Type 0 where
   pub is_bytes : bytes ≡ decimal port ++ rest
   pub low : 0 < port
-  pub high : port < 65536
+  pub high : port ≤ HIGHEST_PORT
 
 -- the longest host, the port, and all that follows; None where the text is no address
 unfoldable pub read_spelled : List ℕ → Option Spelled

@@ -1,8 +1,9 @@
 -- An address as it is kept: its text in the normal form, and where the host and the authority end in it.
-use Rattle.std.specs.Prelude.{ℕ, ◌≡◌, ◌+◌, ◌<◌, Bool, true, not, ◌==◌, List, [], ◌∷◌, codes, ◌++◌, length, take, drop, decimal, if◌then◌else◌}
+use Rattle.std.specs.Prelude.{ℕ, ◌≡◌, ◌+◌, ◌<◌, ◌≤◌, Bool, true, not, ◌==◌, List, [], ◌∷◌, codes, ◌++◌, length, take, drop, decimal, if◌then◌else◌}
 use Rattle.std.specs.List.{list_all}
 use Rattle.std.specs.Char.{is_ascii, is_ascii_uppercase}
 use Rattle.tpf_base.specs.Addresses.{Address, IsAddress, authority_text, address_text, is_address_byte, is_host}
+use Rattle.tpf_base.specs.declared.limits.TheConstants.{HIGHEST_PORT}
 use Rattle.template_fill.specs.ReadAddress.{with_target}
 
 -- what is kept
@@ -24,7 +25,7 @@ pub record IsNormal (host : List ℕ) (port : ℕ) (target : List ℕ) : Type 0 
   pub is_host : is_host host ≡ true
   pub lower : is_lower host ≡ true
   pub low : 0 < port
-  pub high : port < 65536
+  pub high : port ≤ HIGHEST_PORT
   pub after_slash : List ℕ
   pub slash : target ≡ 47 ∷ after_slash
   pub bytes : list_all is_address_byte after_slash ≡ true

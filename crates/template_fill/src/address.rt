@@ -8,8 +8,8 @@ ghost use Rattle.tpf_base.specs.Addresses.{Address, IsAddress, is_host_byte, aut
 ghost use Rattle.template_fill.specs.Forms.{mark_behind};
 ghost use Rattle.template_fill.specs.ReadAddress.{IsSpelled, is_rest, rooted, normal};
 ghost use Rattle.template_fill.specs.Spelled.{spelled_of};
-ghost use Rattle.template_fill.specs.WebAddress.{Extends, OneAddress, port_text, IsNoAddress};
-ghost use Rattle.template_fill.specs.Authorities.{ShareAuthority, TextsAreAddresses, AuthoritiesAreHostsAndPorts, TemplatesAreKept, ServerTemplatesAreKept, ExpansionsAreAddresses, ExpansionsShareAuthority, PagesAreAddresses, PagesShareAuthority};
+ghost use Rattle.template_fill.specs.WebAddress.{Extends, port_text, IsNoAddress};
+ghost use Rattle.template_fill.specs.Authorities.{ShareAuthority};
 
 use crate::AddressFault;
 use crate::spelled::{SpelledAddress, read_spelled};
@@ -121,8 +121,8 @@ impl WebAddress {
     }
 
     /// The address that a text is. `BadAddress` exactly where it is none, as with another scheme, a fragment
-    /// identifier, no host or one of more than 255 characters, or a port that is 0, above 65535 or has a
-    /// leading zero. `OutOfMemory` comes only when memory ran out.
+    /// identifier, no host or one of more than 255 characters, or a port that is 0, above `HIGHEST_PORT`
+    /// (65535) or has a leading zero. `OutOfMemory` comes only when memory ran out.
     pub fn read(alloc: Global, text: &str) -> Result<WebAddress, AddressFault>
         ensures read { IfOk result (λ a. IsAddress text.now a) }
         ensures refused { IsErrOf result AddressFault.BadAddress ↔ IsNoAddress text.now }
@@ -235,29 +235,3 @@ impl WebAddress {
         })
     }
 }
-
-/// A text is one address at most, and each address is that of its own text.
-pub fn an_address_is_one()
-    ensures one { OneAddress }
-    ensures own { TextsAreAddresses }
-{}
-
-/// Addresses have one authority exactly where they have one host and one port (RFC 3986, section 3.2).
-pub fn authorities_are_hosts_and_ports()
-    ensures { AuthoritiesAreHostsAndPorts }
-{}
-
-/// The address before the first expression of a template has its path written, so with any values the
-/// template expands to an address, which has the authority of this start (RFC 6570, section 3).
-pub fn expansions_share_authority()
-    ensures kept { TemplatesAreKept }
-    ensures server { ServerTemplatesAreKept }
-    ensures addresses { ExpansionsAreAddresses }
-    ensures authority { ExpansionsShareAuthority }
-{}
-
-/// Each page has an address, which has the authority of the base.
-pub fn pages_share_authority()
-    ensures addresses { PagesAreAddresses }
-    ensures authority { PagesShareAuthority }
-{}

@@ -2,7 +2,7 @@
 ghost use Rattle.std.specs.Prelude.{◌≡◌, ◌∷◌, ◌++◌, IfOk, IfErr};
 ghost use Rattle.std.specs.String.{string_bytes};
 ghost use Rattle.rdf_terms.specs.Valid.{IsNotBlank};
-ghost use Rattle.template_fill.specs.Explicit.{Gives, ReadsBack, FormsAreText, FormsAreShort, fixed, explicit_form, suffix, slot_of, read_iri, read_literal, suffixed_literal, tagged_literal, typed_literal, marked_literal};
+ghost use Rattle.template_fill.specs.Explicit.{Gives, fixed, explicit_form, suffix, slot_of, read_iri, read_literal, suffixed_literal, tagged_literal, typed_literal, marked_literal};
 
 use crate::ValueFault;
 use rdf_terms::{Kind, Slot, Term, TermFault};
@@ -145,19 +145,3 @@ pub fn read_explicit(alloc: Global, text: &str) -> Result<Slot, ValueFault>
         None => fixed(iri(alloc, text)),
     }
 }
-
-/// The slot of the explicit form of an IRI or a literal is that term, fixed.
-pub fn explicit_forms_read_back()
-    ensures { ReadsBack }
-{}
-
-/// The explicit form of a valid term is text, so it can be written into an address.
-pub fn explicit_forms_are_text()
-    ensures { FormsAreText }
-{}
-
-/// The explicit form of a term has at most four bytes more than the IRI, or than the lexical form with its datatype or
-/// tag; and no more than the canonical text.
-pub fn explicit_forms_are_short()
-    ensures { FormsAreShort }
-{}

@@ -19,7 +19,8 @@ mod address;
 mod explicit_form;
 mod fault;
 mod form;
-mod history;
+pub mod laws;
+mod limits;
 mod page;
 mod part;
 mod rows;
@@ -27,19 +28,19 @@ mod spelled;
 mod template;
 mod value;
 
-pub use address::{
-    WebAddress, an_address_is_one, authorities_are_hosts_and_ports, expansions_share_authority,
-    pages_share_authority,
-};
-pub use explicit_form::{
-    explicit, explicit_forms_are_short, explicit_forms_are_text, explicit_forms_read_back,
-    read_explicit,
-};
+pub use address::WebAddress;
+pub use explicit_form::{explicit, read_explicit};
 pub use fault::{AddressFault, TemplateFault, ValueFault};
 pub use form::Form;
-pub use history::{versions_are_numbered, versions_are_valid};
-pub use page::{address_reads_back, first_page_is_expansion, page_address, pages_are_answered};
-pub use rows::{read_row, row_length, rows_read_back};
+pub use laws::{
+    address_reads_back, an_address_is_one, authorities_are_hosts_and_ports,
+    expansions_share_authority, explicit_forms_are_short, explicit_forms_are_text,
+    explicit_forms_read_back, first_page_is_expansion, pages_are_answered, pages_share_authority,
+    rows_read_back, versions_are_numbered, versions_are_valid,
+};
+pub use limits::LONGEST_START;
+pub use page::page_address;
+pub use rows::{read_row, row_length};
 pub use spelled::is_written_path;
 pub use template::Template;
 pub use value::Value;

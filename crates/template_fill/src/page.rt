@@ -4,10 +4,8 @@ ghost use Rattle.std.specs.String.{string_bytes};
 ghost use Rattle.tpf_base.specs.Addresses.{IsAddress};
 ghost use Rattle.template_fill.specs.Forms.{HasNoBlank, HasNoBlankSlot};
 ghost use Rattle.template_fill.specs.Templates.{next_mark, pair_text};
-ghost use Rattle.template_fill.specs.Answers.{ReadsAddress};
-ghost use Rattle.template_fill.specs.Answered.{PagesAreGiven, AnsweredGivePages, OnePageIsAsked};
 ghost use Rattle.template_fill.specs.Authorities.{ShareAuthority};
-ghost use Rattle.template_fill.specs.Pages.{FirstPageIsExpansion, FirstPageHasRows, page_address, page_mark, page_pair, places_text, selection_text, slot_text};
+ghost use Rattle.template_fill.specs.Pages.{page_address, page_mark, page_pair, places_text, selection_text, slot_text};
 ghost use Rattle.std.specs.List.{AllByRecursion};
 
 use crate::WebAddress;
@@ -29,7 +27,8 @@ fn push_slot(
     requires ascii { mark < 128 }
     requires terms { HasNoBlankSlot slot.now }
     ensures next { IfOk result (λ next. next ≡ next_mark mark (slot_text slot.now)) }
-    ensures text { OnOk result (string_bytes out.new ≡ string_bytes out.old ++ pair_text mark name.now (slot_text slot.now)) }
+    ensures text { OnOk result
+        (string_bytes out.new ≡ string_bytes out.old ++ pair_text mark name.now (slot_text slot.now)) }
 {
     let Slot::Fixed(term) = slot else {
         return Ok(mark);
@@ -65,8 +64,8 @@ fn push_selection(
     requires rows { AllByRecursion HasNoBlank rows.now }
     ensures next { IfOk result (λ next.
         next ≡ page_mark (selection_text (record { slots = slots.now; rows = rows.now }))) }
-    ensures text { OnOk result
-        (string_bytes out.new ≡ string_bytes out.old ++ selection_text (record { slots = slots.now; rows = rows.now })) }
+    ensures text { OnOk result (string_bytes out.new
+        ≡ string_bytes out.old ++ selection_text (record { slots = slots.now; rows = rows.now })) }
 {
     let mark = push_places(alloc, out, slots)?;
     if rows.is_empty() {
@@ -113,25 +112,3 @@ pub fn page_address(
     push_page(alloc, &mut text, mark, page)?;
     Ok(base.extended(text))
 }
-
-/// Page 1 of a fragment has the address that the server's template expands to; and page 1 of what rows leave of
-/// it has that address with the rows behind it, where the base has no query.
-pub fn first_page_is_expansion()
-    ensures alone { FirstPageIsExpansion }
-    ensures rows { FirstPageHasRows }
-{}
-
-/// The target of the address of a page is on the path of the base and asks for the slots and the
-/// number of that page, where no slot has a blank node.
-pub fn address_reads_back()
-    ensures { ReadsAddress }
-{}
-
-/// The address of each page that a fragment has gives that page: its request is answered with the
-/// status 200 and the page's body. An address that is answered so gives a page, and a target asks for
-/// one page alone.
-pub fn pages_are_answered()
-    ensures given { PagesAreGiven }
-    ensures answered { AnsweredGivePages }
-    ensures one { OnePageIsAsked }
-{}

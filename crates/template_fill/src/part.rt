@@ -126,7 +126,8 @@ fn operator_of(b: u8) -> Option<Operator>
 /// The operator, the names and the literal of what follows a `{`.
 #[tactic(auto, unfolding(crate::specs::Templates::shape_of))]
 fn shape(bytes: &[u8]) -> Option<(Operator, &[u8], &[u8])>
-    ensures shape { MatchOption result (shape_of bytes.now ≡ None) (λ s. shape_of bytes.now ≡ Some (s.0, s.1.now, s.2.now)) }
+    ensures shape { MatchOption result (shape_of bytes.now ≡ None)
+        (λ s. shape_of bytes.now ≡ Some (s.0, s.1.now, s.2.now)) }
     ensures literal { IfSome result (λ s. list_all is_address_byte s.2.now ≡ true) }
 {
     let [first, inside @ ..] = bytes else {
@@ -144,7 +145,8 @@ fn shape(bytes: &[u8]) -> Option<(Operator, &[u8], &[u8])>
 
 /// The text of the value with this name.
 fn value_of<'a>(values: &'a [Value], name: &Text) -> Option<&'a str>
-    ensures { MatchOption result (value_of name.now values.now ≡ None) (λ text. value_of name.now values.now ≡ Some text.now) }
+    ensures { MatchOption result (value_of name.now values.now ≡ None)
+        (λ text. value_of name.now values.now ≡ Some text.now) }
 {
     for value in values {
         if value.name == *name {
@@ -174,7 +176,8 @@ fn push_pair(
 ) -> Result<char, AllocError>
     requires { mark < 128 }
     ensures next { IfOk result (λ next. next ≡ next_mark mark (value_of name.now values.now)) }
-    ensures text { OnOk result (string_bytes out.new ≡ string_bytes out.old ++ pair_text mark name.now (value_of name.now values.now)) }
+    ensures text { OnOk result (string_bytes out.new
+        ≡ string_bytes out.old ++ pair_text mark name.now (value_of name.now values.now)) }
 {
     let Some(text) = value_of(values, name) else {
         return Ok(mark);
@@ -193,7 +196,8 @@ fn push_pairs(
     names: &[Text],
     values: &[Value],
 ) -> Result<(), AllocError>
-    ensures { OnOk result (string_bytes out.new ≡ string_bytes out.old ++ pairs_text (first_mark operator) names.now values.now) }
+    ensures { OnOk result (string_bytes out.new
+        ≡ string_bytes out.old ++ pairs_text (first_mark operator) names.now values.now) }
 {
     let mut mark = operator.first_mark();
     for name in names {
@@ -211,10 +215,7 @@ impl Part {
         let Some((operator, names, literal)) = shape(bytes) else {
             return Err(TemplateFault::BadTemplate);
         };
-        let names = match read_names(alloc, names) {
-            Ok(names) => names,
-            Err(fault) => return Err(fault),
-        };
+        let names = read_names(alloc, names)?;
         let literal = Text::copy(alloc, ascii_text(literal))?;
         Ok(Part {
             operator,

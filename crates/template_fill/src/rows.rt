@@ -3,7 +3,7 @@ ghost use Rattle.std.specs.Prelude.{◌≡◌, ◌<◌, ◌∷◌, [], ◌++◌,
 ghost use Rattle.std.specs.List.{AllByRecursion};
 ghost use Rattle.std.specs.String.{string_bytes};
 ghost use Rattle.template_fill.specs.Forms.{HasNoBlank, HasNoBlankSlot};
-ghost use Rattle.template_fill.specs.Rows.{ReadsRows, places_between, row_of, row_pair, row_place, row_text, rows_text, slot_in_row};
+ghost use Rattle.template_fill.specs.Rows.{places_between, row_of, row_pair, row_place, row_text, rows_text, slot_in_row};
 
 use crate::ValueFault;
 use crate::explicit_form::{explicit, read_explicit};
@@ -140,8 +140,3 @@ pub fn read_row(alloc: Global, text: &str) -> Result<Option<Slots>, OutOfMemory>
         object,
     }))
 }
-
-/// The value of a row is read as that row, where no place is a blank node.
-pub fn rows_read_back()
-    ensures { ReadsRows }
-{}

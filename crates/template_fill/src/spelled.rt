@@ -8,6 +8,8 @@ ghost use Rattle.template_fill.specs.Configurations.{is_written_path};
 ghost use Rattle.template_fill.specs.ReadAddress.{IsSpelled, Spells, SpellsPort, SpellsDigits, opened, port_digits, is_rest, is_port_text, after_scheme, port_part, read_spelled};
 ghost use Rattle.template_fill.specs.Spelled.{spelled_of};
 
+use tpf_base::HIGHEST_PORT;
+
 /// The parts of an address as they are written.
 #[derive(Clone, Copy)]
 pub struct SpelledAddress<'a> {
@@ -102,7 +104,8 @@ fn is_host(bytes: &[u8]) -> bool
 
 #[tactic(auto, unfolding(crate::specs::ReadAddress::after_scheme))]
 fn after_scheme(text: &[u8]) -> Option<&[u8]>
-    ensures part { MatchOption result (after_scheme text.now ≡ None) (λ rest. after_scheme text.now ≡ Some rest.now) }
+    ensures part { MatchOption result (after_scheme text.now ≡ None)
+        (λ rest. after_scheme text.now ≡ Some rest.now) }
     ensures text { IfSome result (λ rest. text.now ≡ codes "http://" ++ rest.now) }
 {
     if text.starts_with(b"http://") {
@@ -112,19 +115,20 @@ fn after_scheme(text: &[u8]) -> Option<&[u8]>
     }
 }
 
-/// The number of a port, unless it has a leading zero or is above 65535.
+/// The number of a port, unless it has a leading zero or is above `HIGHEST_PORT`.
 fn port_number(digits: &[u8]) -> Option<u16>
     requires { list_all is_ascii_digit digits.now ≡ true }
-    ensures value { MatchOption result (is_port_text digits.now ≡ false) (λ port. (is_port_text digits.now ≡ true) × (port ≡ digits_value 10 digits.now)) }
+    ensures value { MatchOption result (is_port_text digits.now ≡ false)
+        (λ port. (is_port_text digits.now ≡ true) × (port ≡ digits_value 10 digits.now)) }
     ensures positive { IfSome result (λ port. 0 < port) }
 {
     if digits.is_empty() || digits[0] == b'0' {
         return None;
     }
-    let mut port: u32 = 0;
+    let mut port: usize = 0;
     for digit in digits {
-        port = port * 10 + u32::from(*digit - b'0');
-        if port > 65535 {
+        port = port * 10 + usize::from(*digit - b'0');
+        if port > HIGHEST_PORT {
             return None;
         }
     }
@@ -143,7 +147,8 @@ fn opened(bytes: &[u8], x: u8) -> Option<&[u8]>
 
 /// The port of the digits at the front, and what follows them.
 fn port_digits(bytes: &[u8]) -> Option<(u16, &[u8])>
-    ensures part { MatchOption result (port_digits bytes.now ≡ None) (λ p. port_digits bytes.now ≡ Some (p.0, p.1.now)) }
+    ensures part { MatchOption result (port_digits bytes.now ≡ None)
+        (λ p. port_digits bytes.now ≡ Some (p.0, p.1.now)) }
     ensures spelled { IfSome result (λ p. SpellsDigits bytes.now p.0 p.1.now) }
 {
     let (digits, rest) = bytes.split_at(digits_len(bytes));
@@ -154,7 +159,8 @@ fn port_digits(bytes: &[u8]) -> Option<(u16, &[u8])>
 /// The port after a host, 80 where none is written, and what follows it.
 #[tactic(auto, unfolding(crate::specs::ReadAddress::port_part))]
 fn port_part(bytes: &[u8]) -> Option<(u16, &[u8])>
-    ensures part { MatchOption result (port_part bytes.now ≡ None) (λ p. port_part bytes.now ≡ Some (p.0, p.1.now)) }
+    ensures part { MatchOption result (port_part bytes.now ≡ None)
+        (λ p. port_part bytes.now ≡ Some (p.0, p.1.now)) }
     ensures spelled { IfSome result (λ p. SpellsPort bytes.now p.0 p.1.now) }
 {
     match opened(bytes, b':') {
@@ -178,7 +184,8 @@ fn is_rest(bytes: &[u8]) -> bool
 /// The parts of an address, or `None` where the text is none.
 #[tactic(auto, unfolding(crate::specs::ReadAddress::read_spelled))]
 pub fn read_spelled(text: &[u8]) -> Option<SpelledAddress<'_>>
-    ensures parts { MatchOption result (read_spelled text.now ≡ None) (λ s. read_spelled text.now ≡ Some (spelled_of s)) }
+    ensures parts { MatchOption result (read_spelled text.now ≡ None)
+        (λ s. read_spelled text.now ≡ Some (spelled_of s)) }
     ensures spelled { IfSome result (λ s. IsSpelled (spelled_of s)) }
     ensures text { IfSome result (λ s. Spells text.now (spelled_of s)) }
 {

@@ -49,16 +49,15 @@ fn start_of(text: &[u8]) -> Option<SpelledAddress<'_>>
 /// The parts of what follows the first `{`, if there is one.
 fn read_parts(alloc: Global, first: Option<&[u8]>) -> Result<Vec<Part>, TemplateFault>
     ensures read { IfOk result (λ parts. parts_of (sections_after 123 (option_copied first.entry)) ≡ Some parts.items) }
-    ensures refused { IsErrOf result TemplateFault.BadTemplate → parts_of (sections_after 123 (option_copied first.entry)) ≡ None }
+    ensures refused { IsErrOf result TemplateFault.BadTemplate
+        → parts_of (sections_after 123 (option_copied first.entry)) ≡ None }
 {
     let mut parts = Vec::new(alloc);
     let mut rest = first;
     while let Some(text) = rest {
         let (section, more) = cut(text, b'{');
-        match Part::read(alloc, section) {
-            Ok(part) => parts.push(part)?,
-            Err(fault) => return Err(fault),
-        }
+        let part = Part::read(alloc, section)?;
+        parts.push(part)?;
         rest = more;
     }
     Ok(parts)
@@ -76,10 +75,7 @@ impl Template {
         let Some(start) = start_of(start) else {
             return Err(TemplateFault::BadTemplate);
         };
-        let parts = match read_parts(alloc, rest) {
-            Ok(parts) => parts,
-            Err(fault) => return Err(fault),
-        };
+        let parts = read_parts(alloc, rest)?;
         let start = WebAddress::normal(alloc, &start)?;
         Ok(Template { start, parts })
     }

@@ -2,8 +2,8 @@ use Rattle.std.proofs.Common.{arith}
 use Rattle.template_fill.proofs.Ports.{digits_value-more, is_port_text-above, positive}
 use Rattle.template_fill.proofs.spelled.port_number.Goals as goal
 
-pub returns-then-port-gt65535-clause-value : goal.returns-then-port-gt65535-clause-value
-returns-then-port-gt65535-clause-value c = is_port_text-above c.args.digits.now c.loop-digit.digit-index c.loop-digit.port c.requires (omega arith) c.loop-digit.invariant.value (omega arith)
+pub returns-then-port-gt-HIGHEST_PORT-clause-value : goal.returns-then-port-gt-HIGHEST_PORT-clause-value
+returns-then-port-gt-HIGHEST_PORT-clause-value c = is_port_text-above c.args.digits.now c.loop-digit.digit-index c.loop-digit.port c.requires (omega arith) c.loop-digit.invariant.value (omega arith)
 
 pub loop-digit-preserved : goal.loop-digit-preserved
 loop-digit-preserved c =

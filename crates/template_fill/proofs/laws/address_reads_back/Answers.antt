@@ -1,5 +1,5 @@
 use Rattle.template_fill.proofs.Questions.{reads_address_back}
-use Rattle.template_fill.proofs.page.address_reads_back.Goals as goal
+use Rattle.template_fill.proofs.laws.address_reads_back.Goals as goal
 
 pub returns : goal.returns
 returns c = reads_address_back

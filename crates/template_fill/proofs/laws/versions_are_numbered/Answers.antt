@@ -1,5 +1,5 @@
 use Rattle.template_fill.proofs.Histories.{last_served, versions_follow, versions_stay}
-use Rattle.template_fill.proofs.history.versions_are_numbered.Goals as goal
+use Rattle.template_fill.proofs.laws.versions_are_numbered.Goals as goal
 
 pub returns-clause-last : goal.returns-clause-last
 returns-clause-last c = last_served

@@ -1,5 +1,5 @@
 use Rattle.template_fill.proofs.Answered.{pages_are_given, answered_give_pages, one_page_is_asked}
-use Rattle.template_fill.proofs.page.pages_are_answered.Goals as goal
+use Rattle.template_fill.proofs.laws.pages_are_answered.Goals as goal
 
 pub returns-clause-given : goal.returns-clause-given
 returns-clause-given c = pages_are_given

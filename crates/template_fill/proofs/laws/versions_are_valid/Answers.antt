@@ -1,5 +1,5 @@
 use Rattle.template_fill.proofs.Histories.{versions, one_history}
-use Rattle.template_fill.proofs.history.versions_are_valid.Goals as goal
+use Rattle.template_fill.proofs.laws.versions_are_valid.Goals as goal
 
 pub returns-clause-versions : goal.returns-clause-versions
 returns-clause-versions c = versions

@@ -1,6 +1,6 @@
 use Rattle.template_fill.proofs.Authorities.{server_kept, expansions, expansions_share}
 use Rattle.template_fill.proofs.ReadTemplates.{templates_are_kept}
-use Rattle.template_fill.proofs.address.expansions_share_authority.Goals as goal
+use Rattle.template_fill.proofs.laws.expansions_share_authority.Goals as goal
 
 pub returns-clause-kept : goal.returns-clause-kept
 returns-clause-kept c = templates_are_kept

@@ -1,5 +1,5 @@
 use Rattle.template_fill.proofs.Authorities.{pages, pages_share}
-use Rattle.template_fill.proofs.address.pages_share_authority.Goals as goal
+use Rattle.template_fill.proofs.laws.pages_share_authority.Goals as goal
 
 pub returns-clause-addresses : goal.returns-clause-addresses
 returns-clause-addresses c = pages
