@@ -5,20 +5,19 @@ use Rattle.std.specs.Char.{is_ascii_digit}
 use Rattle.std.proofs.lemmas.List.Folds.{list_all-append}
 use Rattle.std.proofs.lemmas.Bool.{and_from, eqb-true, not_from_false, or_from, true≢false}
 use Rattle.std.proofs.lemmas.Bool.Decides.{nat_tests}
-use Rattle.list_laws.proofs.Tests.{all_below, from_all_below, implied}
+use Rattle.list_laws.proofs.Tests.{all_below, from_all_below, implied, and_first, and_second}
 use Rattle.tpf_base.specs.Decimals.{decimal_text}
 use Rattle.tpf_base.proofs.DecimalTexts.{decimal_text-digits}
 use Rattle.rdf_terms.specs.Iri.{is_iri, is_iri_byte, is_letter, is_scheme_byte, has_colon, has_scheme}
 use Rattle.rdf_terms.specs.Datatype.{is_datatype, xsd_string, lang_string}
 use Rattle.template_fill.specs.Metadata.{integer}
-use Rattle.template_fill.proofs.Addresses.{and_left, and_right}
 use Rattle.template_fill.proofs.Passing.{list_all-wider}
 use Rattle.hydra_controls.specs.declared.term_text.TermKind.TheVariants as kinds
 use Rattle.hydra_controls.specs.TermTexts.{is_plain_byte, term_as, xsd_integer}
 
 goes_on : (colon ok more longer : Bool) → (more ≡ true → longer ≡ true) → colon || (ok && more) ≡ true → colon || (ok && longer) ≡ true
 goes_on true ok more longer step h = refl
-goes_on false ok more longer step h = and_from ok longer (and_left ok more h) (step (and_right ok more h))
+goes_on false ok more longer step h = and_from ok longer (and_first ok more h) (step (and_second ok more h))
 
 has_colon-append : (a b : List ℕ) → has_colon a ≡ true → has_colon (a ++ b) ≡ true
 has_colon-append [] b h = absurd (cc)
@@ -26,13 +25,13 @@ has_colon-append (x ∷ a) b h = goes_on (x == 58) (is_scheme_byte x) (has_colon
 
 has_scheme-append : (a b : List ℕ) → has_scheme a ≡ true → has_scheme (a ++ b) ≡ true
 has_scheme-append [] b h = absurd (cc)
-has_scheme-append (x ∷ a) b h = and_from (is_letter x) (has_colon (a ++ b)) (and_left (is_letter x) (has_colon a) h) (has_colon-append a b (and_right (is_letter x) (has_colon a) h))
+has_scheme-append (x ∷ a) b h = and_from (is_letter x) (has_colon (a ++ b)) (and_first (is_letter x) (has_colon a) h) (has_colon-append a b (and_second (is_letter x) (has_colon a) h))
 
 -- an IRI with more characters of one after it is an IRI
 pub is_iri-append : (a b : List ℕ) → is_iri a ≡ true → list_all is_iri_byte b ≡ true → is_iri (a ++ b) ≡ true
 is_iri-append a b h all =
-    let own = and_left (list_all is_iri_byte a) (has_scheme a) h in
-    let scheme = has_scheme-append a b (and_right (list_all is_iri_byte a) (has_scheme a) h) in
+    let own = and_first (list_all is_iri_byte a) (has_scheme a) h in
+    let scheme = has_scheme-append a b (and_second (list_all is_iri_byte a) (has_scheme a) h) in
     and_from (list_all is_iri_byte (a ++ b)) (has_scheme (a ++ b)) (rw (list_all-append is_iri_byte a b, own) all) scheme
 
 integer_is_datatype : is_datatype xsd_integer ≡ true
@@ -63,7 +62,7 @@ iri_byte-plain b own =
     not_from_false _ (or_from _ _ (or_from _ _ (or_from _ _ quote backslash) line) back)
 
 pub iri-plain : (text : List ℕ) → is_iri text ≡ true → list_all is_plain_byte text ≡ true
-iri-plain text own = list_all-wider is_iri_byte is_plain_byte iri_byte-plain text (and_left (list_all is_iri_byte text) (has_scheme text) own)
+iri-plain text own = list_all-wider is_iri_byte is_plain_byte iri_byte-plain text (and_first (list_all is_iri_byte text) (has_scheme text) own)
 
 digit-iri : (b : ℕ) → is_ascii_digit b ≡ true → is_iri_byte b ≡ true
 unfolding all_below
