@@ -3,9 +3,10 @@ use Rattle.std.proofs.Common.{◌≡◌, ℕ, ◌<◌, List, [], ◌∷◌, ◌+
 use Rattle.std.specs.Prelude.{codes}
 use Rattle.std.specs.List.{list_all}
 use Rattle.std.proofs.lemmas.Bool.Decides.{nat_tests}
+use Rattle.list_laws.proofs.Tests.{and_first, and_second}
 use Rattle.tpf_base.specs.Addresses.{Address, IsAddress, is_host, is_path_byte, is_path, is_query_part, query_text, authority_text, target_of, address_text}
 use Rattle.template_fill.specs.WebAddress.{IsNormal, is_lower}
-use Rattle.template_fill.proofs.Addresses.{and_left, and_right, is_host-lower, is_lower-lower, not_empty, keeps, kept_iri}
+use Rattle.template_fill.proofs.Addresses.{is_host-lower, is_lower-lower, not_empty, keeps, kept_iri}
 use Rattle.template_fill.proofs.Authorities.{port_range}
 use Rattle.template_fill.proofs.Reading.{is_tail}
 use Rattle.own_controls.specs.Safe.{IsWeb}
@@ -20,8 +21,8 @@ pub record RootedPath (path : List ℕ) : Type 0 where
 rooted_path : (typed : List ℕ) → is_path typed ≡ true → RootedPath (if length typed == 0 then codes "/" else typed)
 rooted_path [] h = record { after = []; is_path = refl; bytes = refl }
 rooted_path (b ∷ rest) h =
-    let slash : b ≡ 47 = grind (arith, nat_tests, and_left (b == 47) _ h) in
-    record { after = rest; is_path = rw (not_empty b rest) (ap (λ x. x ∷ rest) slash); bytes = and_right (b == 47) _ h }
+    let slash : b ≡ 47 = grind (arith, nat_tests, and_first (b == 47) _ h) in
+    record { after = rest; is_path = rw (not_empty b rest) (ap (λ x. x ∷ rest) slash); bytes = and_second (b == 47) _ h }
 
 target_normal : (host path : List ℕ) (port : ℕ) (query : Option (List ℕ)) → is_host host ≡ true → is_lower host ≡ true → 0 < port → port < 65536 → RootedPath path → is_query_part query ≡ true → IsNormal host port (path ++ query_text query)
 target_normal host path port query own lower low high root asked =

@@ -6,9 +6,10 @@ use Rattle.std.specs.Str.{IsUtf8}
 use Rattle.std.specs.Str.Parse.{digits_value}
 use Rattle.std.proofs.lemmas.Bool.{and_from}
 use Rattle.std.proofs.lemmas.Bool.Decides.{nat_tests}
+use Rattle.list_laws.proofs.Tests.{and_first, and_second}
 use Rattle.tpf_base.specs.Decimals.{decimal_text}
 use Rattle.tpf_base.proofs.DecimalTexts.{decimal_text-digits, decimal_text-some, decimal_text-short, decimal_text-long, decimal_text-value}
-use Rattle.template_fill.proofs.Addresses.{and_left, and_right, utf8-ascii}
+use Rattle.template_fill.proofs.Addresses.{utf8-ascii}
 use Rattle.template_fill.proofs.Passing.{list_all-wider}
 use Rattle.page_controls.specs.Controls.{is_count_text}
 
@@ -28,7 +29,7 @@ count_value n = sym (decimal_text-value n)
 -- a number that is written as a count is one
 pub count_bound : (n : ℕ) → is_count_text (decimal_text n) ≡ true → n ≤ 9999999999999999999
 count_bound n h =
-    let few : length (decimal_text n) ≤ 19 = grind (arith, nat_tests, and_left (nat_le (length (decimal_text n)) 19) _ (and_right (nat_le 1 (length (decimal_text n))) _ h)) in
+    let few : length (decimal_text n) ≤ 19 = grind (arith, nat_tests, and_first (nat_le (length (decimal_text n)) 19) _ (and_second (nat_le 1 (length (decimal_text n))) _ h)) in
     let below : n < 10 ^ 19 = decimal_text-long n 19 few in
     omega arith
 
@@ -41,6 +42,6 @@ number_utf8 n = utf8-ascii (decimal_text n) (list_all-wider is_ascii_digit is_as
 -- a count is digits alone, at least one
 pub count_form : (form : List ℕ) → is_count_text form ≡ true → (0 < length form) × (list_all is_ascii_digit form ≡ true)
 count_form form h =
-    let some = and_left (nat_le 1 (length form)) _ h in
-    let rest = and_right (nat_le 1 (length form)) _ h in
-    (grind (arith, nat_tests, some), and_right (nat_le (length form) 19) _ rest)
+    let some = and_first (nat_le 1 (length form)) _ h in
+    let rest = and_second (nat_le 1 (length form)) _ h in
+    (grind (arith, nat_tests, some), and_second (nat_le (length form) 19) _ rest)

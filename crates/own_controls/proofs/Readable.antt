@@ -7,6 +7,7 @@ use Rattle.std.specs.Str.{IsAscii, chars, is_utf8}
 use Rattle.std.proofs.lemmas.Bool.Decides.{nat_tests}
 use Rattle.std.proofs.lemmas.Str.{chars-IsAscii, is_utf8-from_IsUtf8}
 use Rattle.std.proofs.lemmas.Str.Ascii.{IsAscii-nil, IsAscii-cons}
+use Rattle.list_laws.proofs.Tests.{and_first, and_second}
 use Rattle.rdf_terms.specs.Iri.{is_iri}
 use Rattle.rdf_terms.specs.Label.{is_label, begins_label, are_label_chars, ends_in_dot}
 use Rattle.rdf_terms.specs.Datatype.{xsd_string, lang_string}
@@ -22,7 +23,7 @@ use Rattle.nquads_text.specs.Quads.{IsReadableTerm, IsReadableGraph, IsReadable}
 use Rattle.tpf_base.specs.Decimals.{decimal_text}
 use Rattle.template_fill.specs.Metadata.{foaf, void, hydra, rdf, plain, integer, statement, topic_quads, form_quads, mapping_quads, count_quads, link_quads, version_quads, owl}
 use Rattle.template_fill.specs.Bodies.{in_default_graph}
-use Rattle.template_fill.proofs.Addresses.{and_left, and_right, utf8-ascii}
+use Rattle.template_fill.proofs.Addresses.{utf8-ascii}
 use Rattle.own_controls.specs.Safe.{IsWeb, HasSafeTexts, IsShort, IsShortGraph, HasShortTerms}
 use Rattle.own_controls.proofs.Web.{web_more}
 use Rattle.own_controls.proofs.Numbers.{number_utf8}
@@ -65,7 +66,7 @@ safe_integer n = record { valid = (number_utf8 n, integer_kind); label = tt }
 
 ascii_list : (bytes : List ℕ) → list_all is_ascii bytes ≡ true → IsAscii bytes
 ascii_list [] all = IsAscii-nil
-ascii_list (b ∷ bytes) all = let own = and_left (is_ascii b) _ all in IsAscii-cons b bytes (grind (arith, nat_tests)) (ascii_list bytes (and_right (is_ascii b) _ all))
+ascii_list (b ∷ bytes) all = let own = and_first (is_ascii b) _ all in IsAscii-cons b bytes (grind (arith, nat_tests)) (ascii_list bytes (and_second (is_ascii b) _ all))
 
 label_of : (bytes cs : List ℕ) → is_utf8 bytes ≡ true → chars bytes ≡ cs → begins_label cs ≡ true → are_label_chars cs ≡ true → ends_in_dot bytes ≡ false → is_label bytes ≡ true
 unfolding is_label

@@ -5,6 +5,7 @@ use Rattle.std.specs.List.{list_all}
 use Rattle.std.specs.Char.{is_ascii_digit}
 use Rattle.std.proofs.lemmas.Bool.Decides.{nat_tests}
 use Rattle.std.proofs.lemmas.List.Folds.{list_all-append}
+use Rattle.list_laws.proofs.Tests.{and_first, and_second}
 use Rattle.rdf_terms.specs.Canon.{is_marked, after_mark, canonical_form, canonical_term, canonical_line}
 use Rattle.rdf_terms.specs.Iri.{is_iri_byte, has_scheme}
 use Rattle.rdf_terms.specs.Datatype.{xsd_string}
@@ -13,7 +14,6 @@ use Rattle.rdf_terms.specs.declared.term.Term.TheVariants.{Iri}
 use Rattle.tpf_base.specs.Decimals.{decimal_text}
 use Rattle.tpf_base.proofs.DecimalTexts.{decimal_text-digits}
 use Rattle.template_fill.specs.Metadata.{plain, integer, statement}
-use Rattle.template_fill.proofs.Addresses.{and_left, and_right}
 use Rattle.template_fill.proofs.Passing.{list_all-wider}
 use Rattle.own_controls.specs.Metadata.{graph_of}
 use Rattle.own_controls.specs.Safe.{IsWeb}
@@ -108,8 +108,8 @@ not_true false h = refl
 plain_form : (form : List ℕ) → list_all (λ b. not (is_marked b)) form ≡ true → canonical_form form ≡ form
 plain_form [] h = refl
 plain_form (b ∷ form) h =
-    byte_same (is_marked b) b (canonical_form form) (not_true (is_marked b) (and_left (not (is_marked b)) _ h))
-    ∙ ap (λ (l : List ℕ). b ∷ l) (plain_form form (and_right (not (is_marked b)) _ h))
+    byte_same (is_marked b) b (canonical_form form) (not_true (is_marked b) (and_first (not (is_marked b)) _ h))
+    ∙ ap (λ (l : List ℕ). b ∷ l) (plain_form form (and_second (not (is_marked b)) _ h))
 
 digit_plain : (b : ℕ) → is_ascii_digit b ≡ true → not (is_marked b) ≡ true
 digit_plain b h = grind (arith, nat_tests)
@@ -122,7 +122,7 @@ digits_plain n = plain_form (decimal_text n) (list_all-wider is_ascii_digit (λ 
 
 template_plain : (base : List ℕ) → IsWeb base → canonical_form (base ++ codes "{?subject,predicate,object}") ≡ base ++ codes "{?subject,predicate,object}"
 template_plain base web =
-    let bytes = list_all-wider is_iri_byte (λ b. not (is_marked b)) iri_plain base (and_left (list_all is_iri_byte base) (has_scheme base) web.iri) in
+    let bytes = list_all-wider is_iri_byte (λ b. not (is_marked b)) iri_plain base (and_first (list_all is_iri_byte base) (has_scheme base) web.iri) in
     plain_form (base ++ codes "{?subject,predicate,object}") (list_all-append (λ b. not (is_marked b)) base (codes "{?subject,predicate,object}") ∙ rw bytes refl)
 
 -- a number as xsd:integer
