@@ -3,6 +3,7 @@ use Rattle.std.proofs.Common.{◌≡◌, ℕ, Bool, true, false, List, [], ◌�
 use Rattle.std.specs.Prelude.{is_none, is_some, IfSome}
 use Rattle.std.specs.Borrow.{Bor}
 use Rattle.std.specs.List.{Contains, list_all, filter}
+use Rattle.list_laws.proofs.Tests.{and_first, and_second}
 use Rattle.rdf_terms.specs.Canon.{canon}
 use Rattle.rdf_terms.specs.declared.term.Term.{Term}
 use Rattle.rdf_terms.specs.declared.term.Triple.{Triple}
@@ -10,7 +11,6 @@ use Rattle.rdf_terms.specs.declared.term.Quad.{Quad}
 use Rattle.nquads_text.proofs.RoundTrip.{read_again}
 use Rattle.tpf_base.specs.Addresses.{Address, IsAddress, address_text, authority_of}
 use Rattle.template_fill.specs.Bodies.{in_default_graph}
-use Rattle.template_fill.proofs.Addresses.{and_left, and_right}
 use Rattle.fragment_page.specs.declared.page.Page.{Page}
 use Rattle.page_controls.specs.Contents.{firsts, page_triples, HoldsBlank}
 use Rattle.page_controls.specs.Controls.{IsCount, IsLeastForm, IsFormOf, IsNext, IsVersion, IsTopic}
@@ -38,7 +38,7 @@ no_graph q h = by q.graph refl h
 -- quads of the default graph are those of their triples
 data_again : (quads : List Quad) → list_all (λ (q : Quad). is_none q.graph) quads ≡ true → map in_default_graph (triples_of quads) ≡ quads
 data_again [] h = refl
-data_again (q ∷ quads) h = λ i. no_graph q (and_left (is_none q.graph) _ h) i ∷ data_again quads (and_right (is_none q.graph) _ h) i
+data_again (q ∷ quads) h = λ i. no_graph q (and_first (is_none q.graph) _ h) i ∷ data_again quads (and_second (is_none q.graph) _ h) i
 
 filter_both : (test : Quad → Bool) (xs ys : List Quad) → filter test (xs ++ ys) ≡ filter test xs ++ filter test ys
 filter_both test [] ys = refl
