@@ -3,13 +3,14 @@ use Rattle.std.proofs.Common.{◌≡◌, ℕ, List, [], ◌∷◌, ◌++◌, Boo
 use Rattle.std.specs.Prelude.{codes}
 use Rattle.std.specs.List.{list_all}
 use Rattle.std.proofs.lemmas.Bool.Decides.{nat_tests}
+use Rattle.list_laws.proofs.Tests.{and_first, and_second}
 use Rattle.rdf_terms.specs.Iri.{is_iri_byte, has_scheme}
 use Rattle.tpf_base.specs.Addresses.{Address, IsAddress, address_text, target_of}
 use Rattle.template_fill.specs.ReadAddress.{Spelled, read_spelled, normal, with_target}
 use Rattle.template_fill.specs.WebAddress.{IsNormal}
 use Rattle.template_fill.specs.Templates.{Part, before, after, sections_after, parts_of, part_of, shape_of, names_of, is_name, begins_with_slash, start_of, read_template, expansion}
 use Rattle.template_fill.specs.Pages.{server_template, template_text}
-use Rattle.template_fill.proofs.Addresses.{and_left, and_right, is_lower-same}
+use Rattle.template_fill.proofs.Addresses.{is_lower-same}
 use Rattle.own_controls.proofs.Addresses.{base_normal, base_web}
 use Rattle.control_laws.proofs.LawAddresses.{base_parts, normal_spelled}
 
@@ -29,8 +30,8 @@ equals_itself x = grind (arith, nat_tests)
 cut_at : (p : ℕ → Bool) (x : ℕ) → p x ≡ false → (text more : List ℕ) → list_all p text ≡ true → (before x (text ++ x ∷ more) ≡ text) × (after x (text ++ x ∷ more) ≡ Some more)
 cut_at p x fails [] more all = (rw (equals_itself x) refl, rw (equals_itself x) refl)
 cut_at p x fails (b ∷ text) more all =
-    let rest = cut_at p x fails text more (and_right (p b) _ all) in
-    let other = differs p b x (and_left (p b) _ all) fails in
+    let rest = cut_at p x fails text more (and_second (p b) _ all) in
+    let other = differs p b x (and_first (p b) _ all) fails in
     (rw (other, rest.0) refl, rw (other, rest.1) refl)
 
 server_parts : (base : Address) → parts_of (sections_after 123 (Some (codes "?subject,predicate,object}"))) ≡ Some ((server_template base).parts)
@@ -55,7 +56,7 @@ pub template_reads : (base : Address) → IsAddress (address_text base) base →
 template_reads base h =
     let n = base_normal base h in
     let web = base_web base h in
-    let cut = cut_at is_iri_byte 123 refl (address_text base) (codes "?subject,predicate,object}") (and_left (list_all is_iri_byte (address_text base)) (has_scheme (address_text base)) web.iri) in
+    let cut = cut_at is_iri_byte 123 refl (address_text base) (codes "?subject,predicate,object}") (and_first (list_all is_iri_byte (address_text base)) (has_scheme (address_text base)) web.iri) in
     let slash : begins_with_slash (target_of base) ≡ true = ap begins_with_slash n.slash in
     let spelled = normal_spelled base.host (target_of base) base.port n in
     let start = start_is (address_text base) (record { host = base.host; port = base.port; rest = target_of base }) spelled slash in
