@@ -1,6 +1,7 @@
 -- What may still come where groups are open: up to the end of each, and behind it.
 use Rattle.std.proofs.Common.{ℕ, zero, suc, ◌≡◌, ◌+◌, ◌-◌, ◌⊎◌, inl, inr, Bool, true, false, nat_eq, List, [], ◌∷◌, ◌++◌, refl, sym, ap, subst, ◌∙◌, arith}
 use Rattle.std.proofs.lemmas.Bool.{or_cases}
+use Rattle.list_laws.proofs.Tests.{self_test}
 use Rattle.regular_expressions.specs.Regular.{Regular, nothing, one_of, seq, Matches, left, nullable}
 use Rattle.regular_expressions.proofs.Left.{left-matches, matches-left, nullable-matches, matches-nullable}
 use Rattle.query_grammar.specs.declared.kind.Kind.TheVariants as kinds
@@ -67,15 +68,8 @@ letters a b r w h =
         pick (inl e) = grind (arith, e)
         pick (inr e) = cc
 
-same_letter : (k : ℕ) → nat_eq k k ≡ true
-same_letter k = pick (nat_eq k k) refl
-  where
-    pick : (t : Bool) → nat_eq k k ≡ t → nat_eq k k ≡ true
-    pick true e = e
-    pick false e = absurd (grind (arith, e))
-
 letters-match : (a b : ℕ) (r : Regular) (v : List ℕ) → Matches r v → Matches (seq (seq (one_of (a ∷ [])) r) (one_of (b ∷ []))) (a ∷ (v ++ b ∷ []))
-letters-match a b r v h = (a ∷ v, b ∷ [], (a ∷ [], v, (a, rw (same_letter a) refl, refl), h, refl), (b, rw (same_letter b) refl, refl), refl)
+letters-match a b r v h = (a ∷ v, b ∷ [], (a ∷ [], v, (a, rw (self_test a) refl, refl), h, refl), (b, rw (self_test b) refl, refl), refl)
 
 pub group-braced : (m : ℕ) (w : List ℕ) → In (suc m) w → Braced m w
 unfolding group_of
