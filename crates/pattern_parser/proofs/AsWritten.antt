@@ -1,13 +1,15 @@
 -- Each term of a query stands for what is written.
-use Rattle.std.proofs.Common.{ℕ, suc, arith, append_assoc, map, ◌≡◌, ◌||◌, Bool, true, false, not, ◌&&◌, ◌==◌, if◌then◌else◌, List, [], ◌∷◌, ◌++◌, codes, Option, Some, None, refl, sym, ap, subst, ◌∙◌, inl, inr}
+use Rattle.std.proofs.Common.{ℕ, suc, arith, append_assoc, map, ◌≡◌, Bool, true, false, not, ◌&&◌, if◌then◌else◌, List, [], ◌∷◌, ◌++◌, codes, Option, Some, None, refl, sym, ap, subst, ◌∙◌, inl, inr}
 use Rattle.std.proofs.lemmas.List.{take-append-drop}
-use Rattle.std.specs.List.{list_all}
 use Rattle.std.specs.Option.{unwrap_or, is_some}
 use Rattle.std.specs.Str.{bytes_eq, chars}
-use Rattle.std.proofs.lemmas.Bool.{and_parts, not-false}
+use Rattle.std.proofs.lemmas.Bool.{not-false, false≢true}
+use Rattle.list_laws.proofs.Options.{some_same}
+use Rattle.rdf_terms.proofs.Iris.{is_iri_append}
+use Rattle.query_words.proofs.Values.{open_value, close_value}
 use Rattle.rdf_terms.specs.declared.term.Term.TheVariants as terms
 use Rattle.rdf_terms.specs.declared.term.Kind.TheVariants.{Plain, Typed, Tagged}
-use Rattle.rdf_terms.specs.Iri.{is_iri, is_iri_byte, is_letter, is_scheme_byte, has_scheme, has_colon}
+use Rattle.rdf_terms.specs.Iri.{is_iri}
 use Rattle.rdf_terms.specs.Kinds.{typed_kind}
 use Rattle.rdf_terms.specs.Datatype.{is_lang_string, xsd_string, lang_string}
 use Rattle.rdf_terms.specs.Tag.{is_tag, lower}
@@ -32,7 +34,6 @@ use Rattle.bgp_core.specs.declared.pattern.Part.{Part}
 use Rattle.bgp_core.specs.declared.pattern.Part.TheVariants as parts
 use Rattle.pattern_parser.specs.Queries.{is_select, prologue, body, block, select_names, prefixes, triples_of, excess, fault_or, first_of, term_fault, later_fault, Reads, ReadsQuery}
 use Rattle.pattern_parser.specs.Written.{IsIriText, IsIriTerm, IsTermOf, IsPart, IsMark, IsItem, names_with, AreItems, words_in, IsWritten}
-use Rattle.pattern_parser.proofs.TokenTexts.{iri_append}
 use Rattle.pattern_parser.proofs.GoodWords.{Good, AllGood, words_good}
 use Rattle.pattern_parser.proofs.Nexts.{is_iri_letter, Nexts, keeps_query}
 use Rattle.pattern_parser.proofs.Splits.{Is, Are, flat, none, one, marked, leaf, iri_leaf}
@@ -76,11 +77,10 @@ none_both test (x ∷ xs) ys e =
 no_text : (t : List ℕ) → ◌≡◌ {A = Option (List ℕ)} None (Some t) → ⊥
 no_text t e = cc
 
-same_text : (s t : List ℕ) → ◌≡◌ {A = Option (List ℕ)} (Some s) (Some t) → s ≡ t
-same_text s t e = cc
-
 iri_is : (v : Value) (t : List ℕ) → is_relative v ≡ false → iri_in v ≡ Some t → is_iri t ≡ true
-iri_is (values.Iri u) t r e = subst (λ (l : List ℕ). is_iri l ≡ true) (same_text u t e) (not-false (is_iri u) r)
+iri_is (values.Iri u) t r e =
+    let same : u ≡ t = some_same e in
+    subst (λ (l : List ℕ). is_iri l ≡ true) same (not-false (is_iri u) r)
 iri_is _ t r e = absurd (no_text t e)
 
 first_is : (ws : List Word) (t : List ℕ) → first_at is_relative ws ≡ None → first_iri ws ≡ Some t → is_iri t ≡ true
@@ -108,23 +108,6 @@ prefix_is (w ∷ ws) n t h e =
 
 -- ---- IRIs
 
-colon_more : (u l : List ℕ) → has_colon u ≡ true → has_colon (u ++ l) ≡ true
-colon_more [] l h = cc
-colon_more (b ∷ u) l h = pick (b == 58) (is_scheme_byte b) (colon_more u l) h
-  where
-    pick : (p q : Bool) → (has_colon u ≡ true → has_colon (u ++ l) ≡ true) → (p || (q && has_colon u)) ≡ true → (p || (q && has_colon (u ++ l))) ≡ true
-    pick true q f h = refl
-    pick false true f h = f h
-    pick false false f h = h
-
-scheme_more : (u l : List ℕ) → has_scheme u ≡ true → has_scheme (u ++ l) ≡ true
-scheme_more [] l h = cc
-scheme_more (b ∷ u) l h = let p = and_parts (is_letter b) (has_colon u) h in rw (p.0, colon_more u l p.1) refl
-
--- an IRI goes on as one
-iri_more : (u l : List ℕ) → is_iri u ≡ true → list_all is_iri_byte l ≡ true → is_iri (u ++ l) ≡ true
-iri_more u l h k = let p = and_parts (list_all is_iri_byte u) (has_scheme u) h in rw (iri_append u l p.0 k, scheme_more u l p.1) refl
-
 known : (o : Option (List ℕ)) → not (is_some o) ≡ false → o ≡ Some (unwrap_or o [])
 known None e = cc
 known (Some u) e = refl
@@ -143,9 +126,6 @@ abbrev is_carets_kind : Kind → Bool
 is_carets_kind kinds.Carets = true
 is_carets_kind _ = false
 
-differ : false ≡ true → ⊥
-differ e = cc
-
 -- each prefix that is known stands for an IRI
 abbrev Declares : (List ℕ → Option (List ℕ)) → Type 0
 Declares iri = (n t : List ℕ) → iri n ≡ Some t → is_iri t ≡ true
@@ -156,8 +136,8 @@ iri_sound iri d (values.Prefix n) k r u g = let s = known (iri n) u in record { 
 iri_sound iri d (values.Prefixed n l) k r u g =
     let front = unwrap_or (iri n) [] in
     let s = known (iri n) u in
-    record { spells = (front, s, refl); scheme = iri_more front l (d n front s) g }
-iri_sound iri d _ k r u g = absurd (differ k)
+    record { spells = (front, s, refl); scheme = is_iri_append front l (d n front s) g }
+iri_sound iri d _ k r u g = absurd (false≢true k)
 
 -- ---- what is fine of some words
 
@@ -192,7 +172,7 @@ iri_letter : (v : Value) → is_iri_letter (code (kind_of v)) ≡ true → is_ir
 iri_letter (values.Iri t) e = refl
 iri_letter (values.Prefix n) e = refl
 iri_letter (values.Prefixed n l) e = refl
-iri_letter _ e = absurd (differ e)
+iri_letter _ e = absurd (false≢true e)
 
 type_comes : (iri : List ℕ → Option (List ℕ)) → Declares iri → (c : Word) (ws : List Word) → c.value ≡ values.Carets → gives_lang_string iri (c ∷ ws) ≡ false → Fine iri (c ∷ ws) → TypeComes iri ws
 type_comes iri d c [] e l f = f.nexts.0 (ap (λ (v : Value). code (kind_of v)) e)
@@ -251,7 +231,7 @@ one_part iri d names (values.Double t) ws e r u g = (parts.Fixed (typed_term t x
 one_part iri d names values.True ws e r u g = (parts.Fixed (typed_term (codes "true") xsd_boolean), refl, refl, inr (typed_term (codes "true") xsd_boolean, boolean_is (codes "true"), refl))
 one_part iri d names values.False ws e r u g = (parts.Fixed (typed_term (codes "false") xsd_boolean), refl, refl, inr (typed_term (codes "false") xsd_boolean, boolean_is (codes "false"), refl))
 one_part iri d names values.TypeWord ws e r u g = (parts.Fixed (iri_term rdf_type), refl, refl, inr (iri_term rdf_type, type_is, refl))
-one_part iri d names _ ws e r u g = absurd (differ e)
+one_part iri d names _ ws e r u g = absurd (false≢true e)
 
 -- some words before others are one item
 abbrev GroupRead : (List ℕ → Option (List ℕ)) → List (List ℕ) → List Word → List Word → Type 0
@@ -276,7 +256,7 @@ mark_is : (v : Value) → is_point (kind_of v) ≡ true → (i : Item) × IsMark
 mark_is values.Dot e = (items.Dot, refl, refl, refl, refl)
 mark_is values.Semicolon e = (items.Semicolon, refl, refl, refl, refl)
 mark_is values.Comma e = (items.Comma, refl, refl, refl, refl)
-mark_is _ e = absurd (differ e)
+mark_is _ e = absurd (false≢true e)
 
 mark_group : (iri : List ℕ → Option (List ℕ)) (names : List (List ℕ)) (ws rest : List Word) → (w : Word) × (ws ≡ w ∷ []) × (is_point (kind_of w.value) ≡ true) → GroupRead iri names ws rest
 mark_group iri names ws rest o = subst (λ (l : List Word). GroupRead iri names l rest) (sym o.1) (pick o.0 o.2)
@@ -306,15 +286,15 @@ string_group iri names w ws rest n s e m g t =
 
 string_is : (v : Value) → is_string (kind_of v) ≡ true → (s : List ℕ) × (v ≡ values.Str s)
 string_is (values.Str s) e = (s, refl)
-string_is _ e = absurd (differ e)
+string_is _ e = absurd (false≢true e)
 
 tag_value : (v : Value) → is_tag_kind (kind_of v) ≡ true → (t : List ℕ) × (v ≡ values.Tag t)
 tag_value (values.Tag t) e = (t, refl)
-tag_value _ e = absurd (differ e)
+tag_value _ e = absurd (false≢true e)
 
 carets_value : (v : Value) → is_carets_kind (kind_of v) ≡ true → v ≡ values.Carets
 carets_value values.Carets e = refl
-carets_value _ e = absurd (differ e)
+carets_value _ e = absurd (false≢true e)
 
 no_more : (n : ℕ) → suc n ≡ 0 → ⊥
 no_more n e = omega arith
@@ -444,14 +424,6 @@ fine_body text ws r n =
       },
       λ m t e. prefix_is (prologue ws) m t absolute.0 e,
     )
-
-open_value : (v : Value) → kind_of v ≡ kinds.OpenBrace → v ≡ values.OpenBrace
-open_value values.OpenBrace e = refl
-open_value _ e = cc
-
-close_value : (v : Value) → kind_of v ≡ kinds.CloseBrace → v ≡ values.CloseBrace
-close_value values.CloseBrace e = refl
-close_value _ e = cc
 
 written_in : (iri : List ℕ → Option (List ℕ)) → Declares iri → (names : List (List ℕ)) (ws : List Word) (l : Outline ws) → Fine iri (body ws) → IsWritten iri names (block (body ws)) (It iri names (block (body ws)))
 written_in iri d names ws l f =

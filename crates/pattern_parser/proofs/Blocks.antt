@@ -1,5 +1,6 @@
 -- The items of words that the grammar reads as a block are a block of the productions.
 use Rattle.std.proofs.Common.{ℕ, ◌≡◌, inl, inr, Bool, true, false, if◌then◌else◌, List, [], ◌∷◌, ◌++◌, Option, Some, None, refl, sym, ap, subst, ◌∙◌, append_assoc, codes}
+use Rattle.std.proofs.lemmas.Bool.{false≢true}
 use Rattle.std.proofs.lemmas.List.{append-nil}
 use Rattle.regular_expressions.specs.Regular.{Regular, many}
 use Rattle.query_grammar.specs.declared.kind.Kind.{Kind}
@@ -42,9 +43,6 @@ is_one kinds.FalseWord = true
 is_one kinds.TypeWord = true
 is_one _ = false
 
-differ : false ≡ true → ⊥
-differ e = cc
-
 one_value : (f : List ℕ → Option (List ℕ)) (names : List (List ℕ)) (v : Value) (ws : List Word) → is_one (kind_of v) ≡ true → (p : Part) × (part_of f names v ws ≡ Some p) × (more v ws ≡ 0)
 one_value f names (values.Iri t) ws e = (parts.Fixed (iri_term t), refl, refl)
 one_value f names (values.Prefix n) ws e = (parts.Fixed (iri_term (iri_text f (values.Prefix n))), refl, refl)
@@ -58,7 +56,7 @@ one_value f names (values.Double t) ws e = (parts.Fixed (typed_term t xsd_double
 one_value f names values.True ws e = (parts.Fixed (typed_term (codes "true") xsd_boolean), refl, refl)
 one_value f names values.False ws e = (parts.Fixed (typed_term (codes "false") xsd_boolean), refl, refl)
 one_value f names values.TypeWord ws e = (parts.Fixed (iri_term rdf_type), refl, refl)
-one_value f names _ ws e = absurd (differ e)
+one_value f names _ ws e = absurd (false≢true e)
 
 abbrev pub is_string : Kind → Bool
 is_string kinds.Str = true
@@ -66,7 +64,7 @@ is_string _ = false
 
 string_value : (f : List ℕ → Option (List ℕ)) (names : List (List ℕ)) (v : Value) (ws : List Word) → is_string (kind_of v) ≡ true → (p : Part) × (part_of f names v ws ≡ Some p) × (more v ws ≡ more_after ws)
 string_value f names (values.Str s) ws e = (parts.Fixed (string_term f s ws), refl, refl)
-string_value f names _ ws e = absurd (differ e)
+string_value f names _ ws e = absurd (false≢true e)
 
 -- how many words after a string a kind says to belong to it
 abbrev pub kind_more : Kind → ℕ
@@ -87,8 +85,8 @@ pub stops_at : (k : Kind) → kind_more k ≡ 0 → (w : Word) (ws : List Word) 
 stops_at k t w ws e = more_by_kind w.value ∙ ap kind_more e ∙ t
 
 pub one_stays : (k : Kind) → is_one k ≡ true → kind_more k ≡ 0
-one_stays kinds.Tag e = absurd (differ e)
-one_stays kinds.Carets e = absurd (differ e)
+one_stays kinds.Tag e = absurd (false≢true e)
+one_stays kinds.Carets e = absurd (false≢true e)
 one_stays _ e = refl
 
 -- the kinds of the marks, and their items
@@ -112,7 +110,7 @@ mark_step f names at values.CloseBrace ws e = refl
 mark_step f names at values.Dot ws e = refl
 mark_step f names at values.Semicolon ws e = refl
 mark_step f names at values.Comma ws e = refl
-mark_step f names at _ ws e = absurd (differ e)
+mark_step f names at _ ws e = absurd (false≢true e)
 
 pub mark_read : (k : Kind) → is_mark k ≡ true → (f : List ℕ → Option (List ℕ)) (names : List (List ℕ)) (w : Word) (ws : List Word) → kind_of w.value ≡ k → It f names (w ∷ ws) ≡ marks k ++ It f names ws
 mark_read k t f names w ws e =

@@ -8,6 +8,7 @@ use Rattle.query_words.specs.declared.word.Value.TheVariants as values
 use Rattle.query_words.specs.declared.word.Word.{Word}
 use Rattle.pattern_parser.specs.declared.item.Item.{Item}
 use Rattle.pattern_parser.specs.declared.item.Item.TheVariants as items
+use Rattle.pattern_parser.specs.declared.limit.TheConstants.{MOST_PATTERNS}
 use Rattle.pattern_parser.specs.declared.limit.Next.{Next}
 use Rattle.pattern_parser.specs.declared.limit.Next.TheVariants.{Subject, Verb, Object}
 use Rattle.pattern_parser.specs.declared.limit.Role.{Role}
@@ -104,10 +105,10 @@ past [] n (suc m) e = refl
 past (t ∷ ts) n zero e = absurd (omega (arith, e))
 past (t ∷ ts) n (suc m) e = past ts n m (omega (arith, e))
 
-pub over_is : (ts : List Placed) (r : PatternCount) (at : ℕ) → r ≡ Over at → Counts 64 ts r → Some at ≡ excess ts
+pub over_is : (ts : List Placed) (r : PatternCount) (at : ℕ) → r ≡ Over at → Counts MOST_PATTERNS ts r → Some at ≡ excess ts
 over_is ts (Over at') at e h = cc
 over_is ts (Left n) at e h = cc
 
-pub left_is : (ts : List Placed) (r : PatternCount) (n : ℕ) → r ≡ Left n → Counts 64 ts r → None ≡ excess ts
+pub left_is : (ts : List Placed) (r : PatternCount) (n : ℕ) → r ≡ Left n → Counts MOST_PATTERNS ts r → None ≡ excess ts
 left_is ts (Over at) n e h = cc
-left_is ts (Left m) n e h = sym (past ts m 64 h)
+left_is ts (Left m) n e h = sym (past ts m MOST_PATTERNS h)

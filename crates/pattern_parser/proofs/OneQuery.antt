@@ -4,6 +4,7 @@ use Rattle.std.specs.Str.{chars, IsUtf8, IsValidUpTo}
 use Rattle.std.proofs.lemmas.Str.{utf8_valid_len-IsValidUpTo}
 use Rattle.bgp_core.specs.Queries.{QueryData}
 use Rattle.query_tokens.specs.declared.piece.Piece.{Piece}
+use Rattle.query_tokens.specs.declared.piece.TheConstants.{LONGEST_QUERY}
 use Rattle.query_tokens.specs.Pieces.{AreTokens, byte_place}
 use Rattle.query_tokens.proofs.Pieces.{one_tokens, one_fault, apart}
 use Rattle.query_grammar.specs.Grammar.{IsQuery, IsGrammarFault}
@@ -51,14 +52,14 @@ query_apart text q _ n r f = later_apart text q _ n r f
 abbrev Same : QueryWhy → ℕ → QueryWhy → ℕ → Type 0
 Same v m w n = (v ≡ w) × (m ≡ n)
 
-long_first : (text : List ℕ) (m : ℕ) (w : QueryWhy) (n : ℕ) → 262144 < length text → m ≡ 262144 → FaultAt text w n → Same why.TooLong m w n
+long_first : (text : List ℕ) (m : ℕ) (w : QueryWhy) (n : ℕ) → LONGEST_QUERY < length text → m ≡ LONGEST_QUERY → FaultAt text w n → Same why.TooLong m w n
 long_first text m why.TooLong n l e f = (refl, e ∙ sym f.1)
 long_first text m why.Utf8 n l e f = let s = f.0 in absurd (omega arith)
 long_first text m why.Token n l e f = let s = f.short in absurd (omega arith)
 long_first text m why.Grammar n l e f = let s = f.short in absurd (omega arith)
 long_first text m _ n l e f = let s = f.reads.short in absurd (omega arith)
 
-utf8_first : (text : List ℕ) (m : ℕ) (w : QueryWhy) (n : ℕ) → length text ≤ 262144 → (IsUtf8 text → ⊥) → IsValidUpTo text m → FaultAt text w n → Same why.Utf8 m w n
+utf8_first : (text : List ℕ) (m : ℕ) (w : QueryWhy) (n : ℕ) → length text ≤ LONGEST_QUERY → (IsUtf8 text → ⊥) → IsValidUpTo text m → FaultAt text w n → Same why.Utf8 m w n
 utf8_first text m why.TooLong n s u v f = let l = f.0 in absurd (omega arith)
 utf8_first text m why.Utf8 n s u v f = (refl, sym (utf8_valid_len-IsValidUpTo text m v) ∙ utf8_valid_len-IsValidUpTo text n f.2)
 utf8_first text m why.Token n s u v f = absurd (u f.utf8)

@@ -3,7 +3,7 @@ use Rattle.std.proofs.Common.{ℕ, ◌≡◌, ◌+◌, Bool, true, false, cond, 
 use Rattle.std.specs.List.{position_from}
 use Rattle.std.specs.Str.{bytes_eq}
 use Rattle.pattern_parser.specs.Names.{anonymous, place_of}
-use Rattle.std.proofs.lemmas.Slice.Eq.{bytes_eq-Decides}
+use Rattle.list_laws.proofs.Bytes.{same_is}
 
 abbrev last_or : Bool → Option ℕ → ℕ → Option ℕ
 last_or b None n = cond b (Some n) None
@@ -18,9 +18,6 @@ position_push t i [] x = let e : i ≡ i + 0 = omega arith in ap (λ (n : ℕ). 
 position_push t i (y ∷ ys) x =
     let e : i + 1 + length ys ≡ i + length (y ∷ ys) = omega arith in
     one_on (t y) (t x) i (i + length (y ∷ ys)) (position_from t (i + 1) (ys ++ x ∷ [])) (position_from t (i + 1) ys) (position_push t (i + 1) ys x ∙ ap (λ (n : ℕ). last_or (t x) (position_from t (i + 1) ys) n) e)
-
-same_is : (q t : List ℕ) → bytes_eq q t ≡ true → q ≡ t
-same_is q t e = (bytes_eq-Decides q t).0 e
 
 kept : (o : Option ℕ) (n : ℕ) → o ≡ last_or false o n
 kept None n = refl

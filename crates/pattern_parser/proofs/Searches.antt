@@ -1,10 +1,10 @@
 -- What `position`, `any` and `find` give over tokens is what the definitions say.
-use Rattle.std.proofs.Common.{ℕ, suc, ◌≡◌, ◌+◌, ◌≤◌, Bool, true, false, cond, ◌||◌, if◌then◌else◌, List, [], ◌∷◌, Option, Some, None, refl, sym, ap, subst, ◌∙◌, length, arith, ltb}
+use Rattle.std.proofs.Common.{ℕ, suc, ◌≡◌, ◌+◌, ◌≤◌, Bool, true, false, cond, ◌||◌, if◌then◌else◌, List, [], ◌∷◌, Option, Some, None, refl, sym, ap, subst, ◌∙◌, length, arith}
 use Rattle.std.specs.Prelude.{option_map}
 use Rattle.std.specs.List.{position, position_or_len, list_any, find}
 use Rattle.std.specs.Option.{unwrap_or}
-use Rattle.std.proofs.lemmas.Bool.{ltb-false}
 use Rattle.std.proofs.lemmas.List.Recursion.{is_position_or_len}
+use Rattle.list_laws.proofs.Options.{place_or_length}
 use Rattle.query_words.specs.declared.word.Value.{Value}
 use Rattle.query_words.specs.declared.word.Word.{Word}
 use Rattle.pattern_parser.specs.Prefixes.{first_at, before}
@@ -26,18 +26,11 @@ before_few test (w ∷ ws) = pick (test w.value) (before_few test ws)
     pick true h = omega arith
     pick false h = omega arith
 
-unwrapped : (k n : ℕ) → k ≤ n → unwrap_or (cond (ltb k n) (Some k) None) n ≡ k
-unwrapped k n h = pick (ltb k n) refl
-  where
-    pick : (b : Bool) → ltb k n ≡ b → unwrap_or (cond b (Some k) None) n ≡ k
-    pick true e = refl
-    pick false e = let f = ltb-false k n e in omega arith
-
 pub before_is : (test : Value → Bool) (ws : List Word) (o : Option ℕ) (n r : ℕ) → o ≡ position (λ w. test w.value) ws → n ≡ length ws → r ≡ unwrap_or o n → r ≡ before test ws
 before_is test ws o n r found all e =
     let p : Word → Bool = λ w. test w.value in
     let few : position_or_len p ws ≤ length ws = subst (λ (k : ℕ). k ≤ length ws) (before_len test ws) (before_few test ws) in
-    e ∙ ap (λ (q : Option ℕ). unwrap_or q n) found ∙ ap (λ (m : ℕ). unwrap_or (position p ws) m) all ∙ unwrapped (position_or_len p ws) (length ws) few ∙ sym (before_len test ws)
+    e ∙ ap (λ (q : Option ℕ). unwrap_or q n) found ∙ ap (λ (m : ℕ). unwrap_or (position p ws) m) all ∙ place_or_length (position_or_len p ws) (length ws) few ∙ sym (before_len test ws)
 
 pub before_within : (test : Value → Bool) (ws : List Word) (r : ℕ) → r ≡ before test ws → r ≤ length ws
 before_within test ws r e = let few = before_few test ws in omega arith

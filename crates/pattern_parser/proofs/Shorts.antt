@@ -18,6 +18,7 @@ use Rattle.bgp_core.specs.Queries.{QueryData}
 use Rattle.query_tokens.specs.declared.kind.PieceKind.{PieceKind}
 use Rattle.query_tokens.specs.declared.kind.PieceKind.TheVariants as pieces
 use Rattle.query_tokens.specs.declared.piece.Piece.{Piece}
+use Rattle.query_tokens.specs.declared.piece.TheConstants.{LONGEST_QUERY}
 use Rattle.query_tokens.specs.Escapes.{character_of, character_or, hex_after, escape_value, escape_length, resolved_after}
 use Rattle.query_tokens.specs.Pieces.{is_gap, byte_place, placed, placed_one}
 use Rattle.query_words.specs.declared.word.Value.{Value}
@@ -199,7 +200,7 @@ placed_short whole cs place (p ∷ ps) e =
     let all : total (words_of whole (one ++ rest)) ≡ total (words_of whole one) + total (words_of whole rest) = ap total (map-append (word_of whole) one rest) ∙ total_append (words_of whole one) (words_of whole rest) in
     omega (arith, all, one_short whole cs place p.0 p.1 e, placed_short whole (drop p.1 cs) (place + p.1) ps next, bytes_split p.1 cs)
 
-pub tokens_short : (text : List ℕ) (ws : List Word) → ReadsTokens text ws → total ws ≤ 262144
+pub tokens_short : (text : List ℕ) (ws : List Word) → ReadsTokens text ws → total ws ≤ LONGEST_QUERY
 tokens_short text ws r =
     let cs = chars text in
     let there : total ws ≡ total (words_of cs (placed cs 0 r.are.pieces)) = ap total r.words ∙ ap (λ (l : List Piece). total (words_of cs l)) r.are.are in
@@ -312,9 +313,9 @@ false_long = refl
 
 abbrev ShortTerm : Option Term → Type 0
 ShortTerm None = Unit {0}
-ShortTerm (Some t) = term_size t ≤ 262204
+ShortTerm (Some t) = term_size t ≤ LONGEST_QUERY + 60
 
-term_short : (iri : List ℕ → Option (List ℕ)) (b : ℕ) → Bound iri b → (v : Value) (ws : List Word) → b + (weight v + total ws) ≤ 262144 → ShortTerm (term_of iri v ws)
+term_short : (iri : List ℕ → Option (List ℕ)) (b : ℕ) → Bound iri b → (v : Value) (ws : List Word) → b + (weight v + total ws) ≤ LONGEST_QUERY → ShortTerm (term_of iri v ws)
 term_short iri b h (values.Iri t) ws f = omega (arith, f, iri_size t)
 term_short iri b h (values.Prefix n) ws f = omega (arith, f, iri_size (iri_text iri (values.Prefix n)), text_size iri b h (values.Prefix n))
 term_short iri b h (values.Prefixed n l) ws f = omega (arith, f, iri_size (iri_text iri (values.Prefixed n l)), text_size iri b h (values.Prefixed n l))
@@ -356,7 +357,7 @@ item_short : (o : Option Part) (at : ℕ) (v : Value) → ShortPart o → AllByR
 item_short None at v f = marks_short v
 item_short (Some p) at v f = (f, tt)
 
-pub items_short : (iri : List ℕ → Option (List ℕ)) (b : ℕ) → Bound iri b → (names : List (List ℕ)) (skip : ℕ) (ws : List Word) → b + total ws ≤ 262144 → AllByRecursion ShortItem (items_after iri names skip ws)
+pub items_short : (iri : List ℕ → Option (List ℕ)) (b : ℕ) → Bound iri b → (names : List (List ℕ)) (skip : ℕ) (ws : List Word) → b + total ws ≤ LONGEST_QUERY → AllByRecursion ShortItem (items_after iri names skip ws)
 items_short iri b h names skip [] f = tt
 items_short iri b h names (suc n) (w ∷ ws) f = items_short iri b h names n ws (omega (arith, f))
 items_short iri b h names zero (w ∷ ws) f =
@@ -376,7 +377,7 @@ triples_short s v (items.Dot ∷ is) a b h = triples_short None None is tt tt h.
 triples_short s v (items.Semicolon ∷ is) a b h = triples_short s None is a tt h.1
 triples_short s v (items.Comma ∷ is) a b h = triples_short s v is a b h.1
 
-as_tokens : (text : List ℕ) (ws : List Word) → Reads text ws → ReadsTokens text ws
+pub as_tokens : (text : List ℕ) (ws : List Word) → Reads text ws → ReadsTokens text ws
 as_tokens text ws r = record { short = r.short; utf8 = r.utf8; tokens = r.tokens; are = r.are; words = r.words }
 
 pub query_short : (text : List ℕ) (q : QueryData) → ReadsQuery text q → AllByRecursion IsShortPattern q.patterns
@@ -386,6 +387,6 @@ query_short text q r =
     let pro = prologue ws in
     let all = total_split (before is_select ws) ws in
     let part = total_split (before is_brace bs) bs in
-    let few : total pro + total (block bs) ≤ 262144 = omega (arith, all, part, tokens_short text ws (as_tokens text ws r.reads)) in
+    let few : total pro + total (block bs) ≤ LONGEST_QUERY = omega (arith, all, part, tokens_short text ws (as_tokens text ws r.reads)) in
     let there = triples_short None None (items_after (prefixes ws) (select_names bs) 0 (block bs)) tt tt (items_short (prefixes ws) (total pro) (prefix_short pro) (select_names bs) 0 (block bs) few) in
     subst (λ (d : QueryData). AllByRecursion IsShortPattern d.patterns) (sym r.is) there

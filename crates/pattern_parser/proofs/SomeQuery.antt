@@ -6,6 +6,7 @@ use Rattle.std.specs.Str.{chars, is_utf8, IsUtf8, IsValidUpTo}
 use Rattle.std.proofs.lemmas.Str.{IsUtf8-from_is_utf8, is_utf8-from_IsUtf8}
 use Rattle.bgp_core.specs.Queries.{QueryData}
 use Rattle.query_tokens.specs.declared.piece.Piece.{Piece}
+use Rattle.query_tokens.specs.declared.piece.TheConstants.{LONGEST_QUERY}
 use Rattle.query_tokens.specs.Pieces.{AreTokens, IsTokenFault, byte_place}
 use Rattle.query_grammar.specs.declared.kind.Kind.{Kind}
 use Rattle.query_grammar.specs.Grammar.{IsQuery, IsGrammarFault}
@@ -105,25 +106,25 @@ TokensKnown = (cs : List ℕ) → ((ts : List Piece) × AreTokens cs ts) ⊎ ((n
 abbrev pub GrammarKnown : Type 0
 GrammarKnown = (ks : List Kind) → IsQuery ks ⊎ ((n : ℕ) × IsGrammarFault ks n)
 
-grammar_or : (text : List ℕ) → length text ≤ 262144 → IsUtf8 text → (ts : List Piece) → AreTokens (chars text) ts → IsQuery (kinds_of (words_of (chars text) ts)) ⊎ ((n : ℕ) × IsGrammarFault (kinds_of (words_of (chars text) ts)) n) → Known text
+grammar_or : (text : List ℕ) → length text ≤ LONGEST_QUERY → IsUtf8 text → (ts : List Piece) → AreTokens (chars text) ts → IsQuery (kinds_of (words_of (chars text) ts)) ⊎ ((n : ℕ) × IsGrammarFault (kinds_of (words_of (chars text) ts)) n) → Known text
 grammar_or text s u ts t (inl q) =
     read_or text (words_of (chars text) ts) (record { short = s; utf8 = u; tokens = ts; are = t; words = refl; query = q })
 grammar_or text s u ts t (inr f) =
     inr (why.Grammar, place_or (words_of (chars text) ts) f.0 (length text), record { short = s; utf8 = u; tokens = ts; are = t; number = f.0; fault = f.1; place_is = refl })
 
-tokens_or : GrammarKnown → (text : List ℕ) → length text ≤ 262144 → IsUtf8 text → ((ts : List Piece) × AreTokens (chars text) ts) ⊎ ((n : ℕ) × IsTokenFault (chars text) n) → Known text
+tokens_or : GrammarKnown → (text : List ℕ) → length text ≤ LONGEST_QUERY → IsUtf8 text → ((ts : List Piece) × AreTokens (chars text) ts) ⊎ ((n : ℕ) × IsTokenFault (chars text) n) → Known text
 tokens_or g text s u (inl t) = grammar_or text s u t.0 t.1 (g (kinds_of (words_of (chars text) t.0)))
 tokens_or g text s u (inr f) =
     inr (why.Token, byte_place (chars text) f.0, record { short = s; utf8 = u; place = f.0; fault = f.1; place_is = refl })
 
-utf8_known : TokensKnown → GrammarKnown → (text : List ℕ) → length text ≤ 262144 → IsUtf8 text ⊎ (IsUtf8 text → ⊥) → Known text
+utf8_known : TokensKnown → GrammarKnown → (text : List ℕ) → length text ≤ LONGEST_QUERY → IsUtf8 text ⊎ (IsUtf8 text → ⊥) → Known text
 utf8_known t g text s (inl u) = tokens_or g text s u (t (chars text))
 utf8_known t g text s (inr u) = let v = valid_up_to text u in inr (why.Utf8, v.0, (s, u, v.1))
 
-length_known : TokensKnown → GrammarKnown → (text : List ℕ) (n : ℕ) → n ≡ 262144 → (length text ≡ n) ⊎ ((length text < n) ⊎ (n < length text)) → Known text
+length_known : TokensKnown → GrammarKnown → (text : List ℕ) (n : ℕ) → n ≡ LONGEST_QUERY → (length text ≡ n) ⊎ ((length text < n) ⊎ (n < length text)) → Known text
 length_known t g text n e (inl l) = utf8_known t g text (omega arith) (utf8_or text)
 length_known t g text n e (inr (inl l)) = utf8_known t g text (omega arith) (utf8_or text)
-length_known t g text n e (inr (inr l)) = inr (why.TooLong, 262144, (omega arith, refl))
+length_known t g text n e (inr (inr l)) = inr (why.TooLong, LONGEST_QUERY, (omega arith, refl))
 
 pub some_query : TokensKnown → GrammarKnown → (text : List ℕ) → Known text
-some_query t g text = length_known t g text 262144 refl (cases_order (length text) 262144)
+some_query t g text = length_known t g text LONGEST_QUERY refl (cases_order (length text) LONGEST_QUERY)

@@ -1,7 +1,9 @@
 -- What the grammar reads of some words, taken apart as its productions are.
 use Rattle.std.specs.List.{list_all}
 use Rattle.std.proofs.Common.{ℕ, ◌≡◌, ◌⊎◌, inl, inr, Bool, true, false, ◌&&◌, ◌==◌, nat_eq, if◌then◌else◌, List, [], ◌∷◌, ◌++◌, refl, sym, ap, subst, ◌∙◌, arith}
-use Rattle.std.proofs.lemmas.Bool.{and_parts, or_cases}
+use Rattle.std.proofs.lemmas.Bool.{and_parts, or_cases, false≢true}
+use Rattle.list_laws.proofs.Each.{all_joined}
+use Rattle.list_laws.proofs.Lists.{cons_same, tails}
 use Rattle.regular_expressions.specs.Regular.{Regular, nothing, nil, one_of, seq, alt, many, is_among, joined, Matches, Each}
 use Rattle.query_grammar.specs.declared.kind.Kind.{Kind}
 use Rattle.query_grammar.specs.declared.kind.Kind.TheVariants as kinds
@@ -32,12 +34,6 @@ no_cons k v e = cc
 heads : (j k : ℕ) (u v : List ℕ) → j ∷ u ≡ k ∷ v → j ≡ k
 heads j k u v e = cc
 
-tails : (j k : ℕ) (u v : List ℕ) → j ∷ u ≡ k ∷ v → u ≡ v
-tails j k u v e = cc
-
-consed : (j k : ℕ) (u v : List ℕ) → j ≡ k → u ≡ v → j ∷ u ≡ k ∷ v
-consed j k u v e f = cc
-
 -- the letters of words in two parts are those of two lists of words
 pub split : (ws : List Word) (u v : List ℕ) → codes (kinds_of ws) ≡ u ++ v → (xs : List Word) × (ys : List Word) × (ws ≡ xs ++ ys) × (codes (kinds_of xs) ≡ u) × (codes (kinds_of ys) ≡ v)
 split ws [] v e = ([], ws, refl, refl, e)
@@ -45,7 +41,7 @@ split [] (k ∷ u) v e = absurd (no_cons k (u ++ v) e)
 split (w ∷ ws) (k ∷ u) v e =
     let j = code (kind_of w.value) in
     let r = split ws u v (tails j k (codes (kinds_of ws)) (u ++ v) e) in
-    (w ∷ r.0, r.1, ap (λ (l : List Word). w ∷ l) r.2, consed j k (codes (kinds_of r.0)) u (heads j k (codes (kinds_of ws)) (u ++ v) e) r.3, r.4)
+    (w ∷ r.0, r.1, ap (λ (l : List Word). w ∷ l) r.2, cons_same j k (codes (kinds_of r.0)) u (heads j k (codes (kinds_of ws)) (u ++ v) e) r.3, r.4)
 
 -- one after the other
 pub seq_split : (r s : Regular) (ws : List Word) → Is (seq r s) ws → (xs : List Word) × (ys : List Word) × Is r xs × Is s ys × (ws ≡ xs ++ ys)
@@ -111,10 +107,7 @@ among_one j k e = pick (or_cases (nat_eq j k) false e)
   where
     pick : (nat_eq j k ≡ true) ⊎ (false ≡ true) → j ≡ k
     pick (inl h) = grind (arith, h)
-    pick (inr h) = absurd (differ h)
-      where
-        differ : false ≡ true → ⊥
-        differ h = cc
+    pick (inr h) = absurd (false≢true h)
 
 -- a word of a kind
 pub one : (k : Kind) (ws : List Word) → Is (a k) ws → (w : Word) × (ws ≡ w ∷ []) × (kind_of w.value ≡ k)
@@ -155,13 +148,9 @@ only p (seq r s) = only p r && only p s
 only p (alt r s) = only p r && only p s
 only p (many r) = only p r
 
-all_two : (p : ℕ → Bool) (u v : List ℕ) → list_all p u ≡ true → list_all p v ≡ true → list_all p (u ++ v) ≡ true
-all_two p [] v a b = b
-all_two p (j ∷ u) v a b = let h = and_parts (p j) (list_all p u) a in rw (h.0, all_two p u v h.1 b) refl
-
 all_each : (p : ℕ → Bool) (r : Regular) → ((w : List ℕ) → Matches r w → list_all p w ≡ true) → (us : List (List ℕ)) → Each (Matches r) us → list_all p (joined us) ≡ true
 all_each p r f [] h = refl
-all_each p r f (u ∷ us) h = all_two p u (joined us) (f u h.0) (all_each p r f us h.1)
+all_each p r f (u ∷ us) h = all_joined p u (joined us) (f u h.0) (all_each p r f us h.1)
 
 pub among_passes : (p : ℕ → Bool) (js : List ℕ) (k : ℕ) → list_all p js ≡ true → is_among js k ≡ true → p k ≡ true
 among_passes p [] k a e = cc
@@ -183,7 +172,7 @@ only_all p nil e w m = rw m refl
 only_all p (one_of js) e w m = one_passes p m.0 w (among_passes p js m.0 e m.1) m.2
 only_all p (seq r s) e w m =
     let h = and_parts (only p r) (only p s) e in
-    subst (λ (l : List ℕ). list_all p l ≡ true) (sym m.4) (all_two p m.0 m.1 (only_all p r h.0 m.0 m.2) (only_all p s h.1 m.1 m.3))
+    subst (λ (l : List ℕ). list_all p l ≡ true) (sym m.4) (all_joined p m.0 m.1 (only_all p r h.0 m.0 m.2) (only_all p s h.1 m.1 m.3))
 only_all p (alt r s) e w (inl m) = only_all p r (and_parts (only p r) (only p s) e).0 w m
 only_all p (alt r s) e w (inr m) = only_all p s (and_parts (only p r) (only p s) e).1 w m
 only_all p (many r) e w m =

@@ -4,10 +4,13 @@ use Rattle.std.specs.List.{list_all}
 use Rattle.std.specs.Char.{encode_utf8}
 use Rattle.std.specs.Str.{encode_utf8_all}
 use Rattle.std.proofs.lemmas.Bool.{and_parts, or_cases, not-true}
-use Rattle.list_laws.proofs.Tests.{all_below, from_all_below, implied}
+use Rattle.list_laws.proofs.Each.{all_joined}
+use Rattle.list_laws.proofs.Lists.{tails}
+use Rattle.list_laws.proofs.Tests.{all_below, from_all_below, implied, not_both_ways}
 use Rattle.regular_expressions.specs.Regular.{is_among, joined, Matches, Each}
 use Rattle.rdf_terms.specs.Iri.{is_iri_byte, is_letter}
 use Rattle.rdf_terms.specs.Tag.{is_letter_or_digit, may_stand, is_tag, runs_tag}
+use Rattle.rdf_terms.proofs.Iris.{high_byte}
 use Rattle.rdf_terms.proofs.Tags.{runs_is_tag}
 use Rattle.query_tokens.specs.declared.class.Class.{Class}
 use Rattle.query_tokens.specs.declared.class.Class.TheVariants as classes
@@ -36,13 +39,6 @@ wide c h =
 
 abbrev AllIri : List ℕ → Type 0
 AllIri bs = list_all is_iri_byte bs ≡ true
-
-high_byte : (b : ℕ) → 128 ≤ b → is_iri_byte b ≡ true
-high_byte b h = grind arith
-
-pub iri_append : (xs ys : List ℕ) → AllIri xs → AllIri ys → AllIri (xs ++ ys)
-iri_append [] ys h k = k
-iri_append (x ∷ xs) ys h k = let p = and_parts (is_iri_byte x) (list_all is_iri_byte xs) h in rw (p.0, iri_append xs ys p.1 k) refl
 
 all_cons : (b : ℕ) (bs : List ℕ) → is_iri_byte b ≡ true → AllIri bs → AllIri (b ∷ bs)
 all_cons b bs h k = rw (h, k) refl
@@ -117,7 +113,7 @@ unescaped_iri (c ∷ cs) h =
         subst (λ (l : List ℕ). AllIri (encode_utf8_all l)) (sym out) r
     by false e f r =
         let out : unescaped (c ∷ cs) ≡ c ∷ unescaped cs = rw e refl in
-        subst (λ (l : List ℕ). AllIri (encode_utf8_all l)) (sym out) (iri_append (encode_utf8 c) (encode_utf8_all (unescaped cs)) (all_encoded c (char_iri c e f)) r)
+        subst (λ (l : List ℕ). AllIri (encode_utf8_all l)) (sym out) (all_joined is_iri_byte (encode_utf8 c) (encode_utf8_all (unescaped cs)) (all_encoded c (char_iri c e f)) r)
 
 name_fine : only is_fine (form pieces.Prefixed) ≡ true
 unfolding form
@@ -241,16 +237,12 @@ tag_stands f c l e =
     pick true x y e = implied (stands true (code (class_of c))) (is_letter c) x e
     pick false x y e = implied (stands false (code (class_of c))) (is_letter_or_digit c) y e
 
-differ : (b : Bool) → b ≡ true → b ≡ false → ⊥
-differ true e f = cc
-differ false e f = cc
-
 low_char : (f : Bool) (c : ℕ) (b : Bool) → (code (class_of c) == 23) ≡ b → (b ≡ false → stands f (code (class_of c)) ≡ true) → c < 128
 low_char f c b e s = by (ltb c 128) refl
   where
     high : (b : Bool) → (code (class_of c) == 23) ≡ b → (b ≡ false → stands f (code (class_of c)) ≡ true) → 128 ≤ c → ⊥
-    high true e s h = differ (code (class_of c) == 23) e (high_no_minus c h)
-    high false e s h = differ (stands f (code (class_of c))) (s refl) (high_no_stand f c h)
+    high true e s h = not_both_ways (code (class_of c) == 23) e (high_no_minus c h)
+    high false e s h = not_both_ways (stands f (code (class_of c))) (s refl) (high_no_stand f c h)
 
     by : (t : Bool) → ltb c 128 ≡ t → c < 128
     by true t = grind (arith, t)
@@ -263,7 +255,7 @@ text_run f h (c ∷ cs) e = by (λ k. text_run false false cs k) (λ k. text_run
     by : (run false false (letters cs) ≡ true → runs_tag false false (encode_utf8_all cs) ≡ true) → (run f true (letters cs) ≡ true → runs_tag f true (encode_utf8_all cs) ≡ true) → (b : Bool) → (code (class_of c) == 23) ≡ b → (if b then h && run false false (letters cs) else (stands f (code (class_of c)) && run f true (letters cs))) ≡ true → runs_tag f h (encode_utf8_all (c ∷ cs)) ≡ true
     by later more true t r =
         let p = and_parts h (run false false (letters cs)) r in
-        let low : c < 128 = low_char f c true t (λ x. absurd (differ true refl x)) in
+        let low : c < 128 = low_char f c true t (λ x. absurd (not_both_ways true refl x)) in
         ap (λ (l : List ℕ). runs_tag f h (l ++ encode_utf8_all cs)) (one_byte c low) ∙ rw (tag_minus c true low t, p.0, later p.1) refl
     by later more false t r =
         let p = and_parts (stands f (code (class_of c))) (run f true (letters cs)) r in
@@ -274,9 +266,6 @@ text_run f h (c ∷ cs) e = by (λ k. text_run false false cs k) (λ k. text_run
 pub tag_is : (cs : List ℕ) → IsToken pieces.Tag cs → is_tag (encode_utf8_all (drop 1 cs)) ≡ true
 tag_is cs m = let r = tag_run (letters cs) m in sym (runs_is_tag (encode_utf8_all (drop 1 cs))) ∙ text_run true false (drop 1 cs) (first cs r.0 r.1 r.2 r.3)
   where
-    tails : (i k : ℕ) (u v : List ℕ) → i ∷ u ≡ k ∷ v → u ≡ v
-    tails i k u v e = cc
-
     none : (k : ℕ) (v : List ℕ) → [] ≡ k ∷ v → ⊥
     none k v e = cc
 

@@ -66,6 +66,13 @@ abbrev pub string_term : (List ℕ → Option (List ℕ)) → List ℕ → List 
 string_term iri s [] = terms.Literal s Plain
 string_term iri s (w ∷ ws) = string_before iri s w.value ws
 
+-- the datatype of a token that is a number or a truth value
+abbrev pub datatype_of : Value → List ℕ
+datatype_of (values.Integer t) = xsd_integer
+datatype_of (values.Decimal t) = xsd_decimal
+datatype_of (values.Double t) = xsd_double
+datatype_of _ = xsd_boolean
+
 -- the term of a token that is no name, with those after it
 abbrev pub term_of : (List ℕ → Option (List ℕ)) → Value → List Word → Option Term
 term_of iri (values.Iri t) ws = Some (iri_term t)

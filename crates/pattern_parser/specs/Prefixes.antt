@@ -1,5 +1,6 @@
 -- The prefixes that a query declares, and the IRIs that its names stand for (SPARQL 1.1, section 4.1.1).
-use Rattle.std.specs.Prelude.{ℕ, Bool, true, false, not, ◌&&◌, List, [], ◌∷◌, ◌++◌, Option, Some, None, if◌then◌else◌, suc}
+use Rattle.std.specs.Prelude.{ℕ, Bool, true, false, not, ◌&&◌, List, [], ◌∷◌, ◌++◌, Option, Some, None, if◌then◌else◌, suc, String}
+use Rattle.std.specs.BTreeMap.{BTreeMap, get_by_text}
 use Rattle.std.specs.Option.{unwrap_or, is_some}
 use Rattle.std.specs.Str.{bytes_eq}
 use Rattle.rdf_terms.specs.Iri.{is_iri}
@@ -7,6 +8,10 @@ use Rattle.rdf_terms.specs.Datatype.{is_lang_string}
 use Rattle.query_words.specs.declared.word.Value.{Value}
 use Rattle.query_words.specs.declared.word.Value.TheVariants.{Iri, Prefix, Prefixed, Str, Carets}
 use Rattle.query_words.specs.declared.word.Word.{Word}
+
+-- the IRI that a map of declared prefixes has for a name
+abbrev pub iris : {Y : Type 0} → BTreeMap (String Y) (List ℕ) → List ℕ → Option (List ℕ)
+iris declared = λ name. get_by_text declared name
 
 -- the first, or the second where there is none
 abbrev pub or_else : Option (List ℕ) → Option (List ℕ) → Option (List ℕ)

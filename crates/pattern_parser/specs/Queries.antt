@@ -3,6 +3,7 @@ use Rattle.std.specs.Prelude.{ℕ, ◌≡◌, ◌⊎◌, ◌<◌, ◌≤◌, Boo
 use Rattle.std.specs.Str.{chars, IsUtf8, IsValidUpTo}
 use Rattle.bgp_core.specs.Queries.{QueryData}
 use Rattle.query_tokens.specs.declared.piece.Piece.{Piece}
+use Rattle.query_tokens.specs.declared.piece.TheConstants.{LONGEST_QUERY}
 use Rattle.query_tokens.specs.Pieces.{AreTokens, IsTokenFault, byte_place}
 use Rattle.query_grammar.specs.Grammar.{IsQuery, IsGrammarFault}
 use Rattle.query_words.specs.declared.word.Value.{Value}
@@ -11,11 +12,12 @@ use Rattle.query_words.specs.declared.word.Word.{Word}
 use Rattle.query_words.specs.Words.{words_of, kinds_of}
 use Rattle.pattern_parser.specs.declared.fault.QueryWhy.{QueryWhy}
 use Rattle.pattern_parser.specs.declared.fault.QueryWhy.TheVariants as why
+use Rattle.pattern_parser.specs.declared.limit.TheConstants.{MOST_PATTERNS}
 use Rattle.pattern_parser.specs.declared.triple.Placed.{Placed}
 use Rattle.pattern_parser.specs.Prefixes.{iri_of, is_unknown, is_relative, first_at, lang_at, before}
 use Rattle.pattern_parser.specs.Names.{variable_numbers}
-use Rattle.pattern_parser.specs.Items.{items_after, names_after}
-use Rattle.pattern_parser.specs.Triples.{triples_after}
+use Rattle.pattern_parser.specs.Items.{names_after}
+use Rattle.pattern_parser.specs.Triples.{block_triples}
 
 -- SELECT
 abbrev pub is_select : Value → Bool
@@ -67,7 +69,7 @@ names_of bs = names_after (select_names bs) 0 (block bs)
 
 -- the triple patterns, each with the place of its object
 abbrev pub triples_of : (List ℕ → Option (List ℕ)) → List Word → List Placed
-triples_of iri bs = triples_after None None (items_after iri (select_names bs) 0 (block bs))
+triples_of iri bs = block_triples iri (select_names bs) (block bs)
 
 -- the numbers of the selected variables: those of the SELECT part, or with '*' all, by their first place
 abbrev pub selected_of : List Word → List ℕ
@@ -77,9 +79,9 @@ selected_of bs = variable_numbers 0 (if has_star (select_part bs) then names_of 
 abbrev pub query_of : (List ℕ → Option (List ℕ)) → List Word → QueryData
 query_of iri bs = record { patterns = map (λ p. p.pattern) (triples_of iri bs); names = names_of bs; selected = selected_of bs }
 
--- the place of the object that completes the 65th pattern
+-- the place of the object that completes one pattern more than a query may have
 abbrev pub excess : List Placed → Option ℕ
-excess ts = option_map (λ p. p.at) (slice_get ts 64)
+excess ts = option_map (λ p. p.at) (slice_get ts MOST_PATTERNS)
 
 -- a fault of a kind where there is a place, or else a later one
 abbrev pub fault_or : Option ℕ → QueryWhy → Option (QueryWhy × ℕ) → Option (QueryWhy × ℕ)
@@ -114,7 +116,7 @@ place_or ws n end = at_or (slice_get ws n) end
 
 -- the text has tokens that the grammar reads, and what they say
 pub record Reads (text : List ℕ) (ws : List Word) : Type 0 where
-  pub short : length text ≤ 262144
+  pub short : length text ≤ LONGEST_QUERY
   pub utf8 : IsUtf8 text
   pub tokens : List Piece
   pub are : AreTokens (chars text) tokens
@@ -130,7 +132,7 @@ pub record ReadsQuery (text : List ℕ) (q : QueryData) : Type 0 where
 
 -- the text is UTF-8, not too long, and this is its first place that begins no token
 pub record IsTokenAt (text : List ℕ) (at : ℕ) : Type 0 where
-  pub short : length text ≤ 262144
+  pub short : length text ≤ LONGEST_QUERY
   pub utf8 : IsUtf8 text
   pub place : ℕ
   pub fault : IsTokenFault (chars text) place
@@ -138,7 +140,7 @@ pub record IsTokenAt (text : List ℕ) (at : ℕ) : Type 0 where
 
 -- the text has tokens, and this is the place of the first with which those so far begin no query
 pub record IsGrammarAt (text : List ℕ) (at : ℕ) : Type 0 where
-  pub short : length text ≤ 262144
+  pub short : length text ≤ LONGEST_QUERY
   pub utf8 : IsUtf8 text
   pub tokens : List Piece
   pub are : AreTokens (chars text) tokens
@@ -154,8 +156,8 @@ pub record IsLaterAt (text : List ℕ) (w : QueryWhy) (at : ℕ) : Type 0 where
 
 -- the first fault of a text: its kind and its place
 abbrev pub FaultAt : List ℕ → QueryWhy → ℕ → Type 0
-FaultAt text why.TooLong at = (262144 < length text) × (at ≡ 262144)
-FaultAt text why.Utf8 at = (length text ≤ 262144) × ¬ (IsUtf8 text) × IsValidUpTo text at
+FaultAt text why.TooLong at = (LONGEST_QUERY < length text) × (at ≡ LONGEST_QUERY)
+FaultAt text why.Utf8 at = (length text ≤ LONGEST_QUERY) × ¬ (IsUtf8 text) × IsValidUpTo text at
 FaultAt text why.Token at = IsTokenAt text at
 FaultAt text why.Grammar at = IsGrammarAt text at
 FaultAt text w at = IsLaterAt text w at
@@ -169,7 +171,7 @@ IsTokenFaultAt text w at = ⊥
 
 -- the text is UTF-8 and not too long, and its tokens say this
 pub record ReadsTokens (text : List ℕ) (ws : List Word) : Type 0 where
-  pub short : length text ≤ 262144
+  pub short : length text ≤ LONGEST_QUERY
   pub utf8 : IsUtf8 text
   pub tokens : List Piece
   pub are : AreTokens (chars text) tokens

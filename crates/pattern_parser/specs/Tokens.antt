@@ -4,6 +4,7 @@ use Rattle.std.specs.Str.{chars, IsUtf8}
 use Rattle.query_tokens.specs.declared.kind.PieceKind.{PieceKind}
 use Rattle.query_tokens.specs.declared.kind.PieceKind.TheVariants as pieces
 use Rattle.query_tokens.specs.declared.piece.Piece.{Piece}
+use Rattle.query_tokens.specs.declared.piece.TheConstants.{LONGEST_QUERY}
 use Rattle.query_tokens.specs.Pieces.{AreTokens}
 use Rattle.pattern_parser.specs.declared.token.Token.{Token}
 use Rattle.pattern_parser.specs.declared.token.TokenKind.{TokenKind}
@@ -31,7 +32,7 @@ token_of p = record { at = p.at; to = p.to; kind = token_kind p.kind }
 
 -- the text is UTF-8 and not too long, and these are its tokens
 pub record IsTokenList (text : List ℕ) (ts : List Token) : Type 0 where
-  pub short : length text ≤ 262144
+  pub short : length text ≤ LONGEST_QUERY
   pub utf8 : IsUtf8 text
   pub tokens : List Piece
   pub are : AreTokens (chars text) tokens

@@ -4,6 +4,8 @@ use Rattle.bgp_core.specs.declared.pattern.Part.{Part}
 use Rattle.pattern_parser.specs.declared.item.Item.{Item}
 use Rattle.pattern_parser.specs.declared.item.Item.TheVariants as items
 use Rattle.pattern_parser.specs.declared.triple.Placed.{Placed}
+use Rattle.query_words.specs.declared.word.Word.{Word}
+use Rattle.pattern_parser.specs.Items.{items_after}
 
 -- a pattern with the place of its object
 abbrev pub placed : Part → Part → Part → ℕ → Placed
@@ -18,3 +20,7 @@ triples_after (Some s) (Some v) (items.Part t at ∷ is) = placed s v t at ∷ t
 triples_after s v (items.Dot ∷ is) = triples_after None None is
 triples_after s v (items.Semicolon ∷ is) = triples_after s None is
 triples_after s v (items.Comma ∷ is) = triples_after s v is
+
+-- the patterns of a block's tokens, behind names
+abbrev pub block_triples : (List ℕ → Option (List ℕ)) → List (List ℕ) → List Word → List Placed
+block_triples iri names ws = triples_after None None (items_after iri names 0 ws)

@@ -1,14 +1,15 @@
 // A query from its tokens.
 ghost use Rattle.std.specs.Prelude.{if◌then◌else◌, ◌≡◌, ◌<◌, ◌≤◌, ◌+◌, ◌-◌, ◌^◌, ℕ, List, [], length, map, OnOk, IfOk, IsErrOf, Some, None};
-ghost use Rattle.std.specs.BTreeMap.{get_by_text};
 ghost use Rattle.std.specs.List.{AllByRecursion};
 ghost use Rattle.bgp_core.specs.Queries.{IsPatternOf};
+ghost use Rattle.query_tokens.specs.declared.piece.TheConstants.{LONGEST_QUERY};
 ghost use Rattle.pattern_parser.specs.declared.fault.QueryWhy.{QueryWhy};
 ghost use Rattle.pattern_parser.specs.declared.triple.Placed.{Placed};
 ghost use Rattle.pattern_parser.specs.Names.{variable_numbers};
 ghost use Rattle.pattern_parser.specs.Numbers.{AreNumbered};
-ghost use Rattle.pattern_parser.specs.Items.{items_after, names_after};
-ghost use Rattle.pattern_parser.specs.Triples.{triples_after};
+ghost use Rattle.pattern_parser.specs.Prefixes.{iris};
+ghost use Rattle.pattern_parser.specs.Items.{names_after};
+ghost use Rattle.pattern_parser.specs.Triples.{block_triples};
 ghost use Rattle.pattern_parser.specs.Queries.{triples_of, query_of, excess, term_fault};
 
 use crate::fault::{QueryFault, QueryWhy};
@@ -25,8 +26,9 @@ use text_base::{OutOfMemory, Text};
 
 /// Finds the first fault of names and terms, in the tokens from SELECT on and in all.
 pub fn check_terms(prefixes: &Prefixes, words: &[Word], body: &[Word]) -> Result<(), QueryFault>
-    ensures ok { OnOk result (term_fault (λ q. get_by_text prefixes.now q) words.now body.now ≡ None) }
-    ensures bad { (w : QueryWhy) (at : ℕ) → IsErrOf result (QueryFault.Bad at w) → term_fault (λ q. get_by_text prefixes.now q) words.now body.now ≡ Some (w, at) }
+    ensures ok { OnOk result (term_fault (iris prefixes.now) words.now body.now ≡ None) }
+    ensures bad { (w : QueryWhy) (at : ℕ) → IsErrOf result (QueryFault.Bad at w)
+        → term_fault (iris prefixes.now) words.now body.now ≡ Some (w, at) }
 {
     if let Some(at) = first_unknown(prefixes, body) {
         return Err(QueryFault::Bad {
@@ -71,7 +73,7 @@ fn triples_in(
 ) -> Result<Vec<Placed>, OutOfMemory>
     requires numbered { AreNumbered names.old }
     requires few { length names.old.texts.items + length words.now < 2 ^ 32 - 1 }
-    ensures triples { IfOk result (λ v. v.items ≡ triples_after None None (items_after (λ q. get_by_text prefixes.now q) names.old.texts.items 0 words.now)) }
+    ensures triples { IfOk result (λ v. v.items ≡ block_triples (iris prefixes.now) names.old.texts.items words.now) }
     ensures names { OnOk result (names.new.texts.items ≡ names_after names.old.texts.items 0 words.now) }
     ensures numbered { OnOk result (AreNumbered names.new) }
     ensures few { OnOk result (length names.new.texts.items ≤ length names.old.texts.items + length words.now) }
@@ -101,7 +103,8 @@ pub fn block_patterns(
 ) -> Result<Vec<Pattern>, OutOfMemory>
     requires numbered { AreNumbered names.old }
     requires few { length names.old.texts.items + length words.now < 2 ^ 32 - 1 }
-    ensures patterns { IfOk result (λ v. v.items ≡ map (λ p. p.pattern) (triples_after None None (items_after (λ q. get_by_text prefixes.now q) names.old.texts.items 0 words.now))) }
+    ensures patterns { IfOk result (λ v. v.items
+        ≡ map (λ p. p.pattern) (block_triples (iris prefixes.now) names.old.texts.items words.now)) }
     ensures names { OnOk result (names.new.texts.items ≡ names_after names.old.texts.items 0 words.now) }
     ensures numbered { OnOk result (AreNumbered names.new) }
     ensures few { OnOk result (length names.new.texts.items ≤ length names.old.texts.items + length words.now) }
@@ -136,7 +139,11 @@ fn finish(
 ) -> Result<Query, OutOfMemory>
     requires patterns { AllByRecursion (IsPatternOf (length texts.items)) (map (λ p. p.pattern) triples.items) }
     requires selected { AllByRecursion (λ n. n < length texts.items) selected.items }
-    ensures { IfOk result (λ q. q ≡ record { patterns = map (λ p. p.pattern) triples.items; names = texts.items; selected = selected.items }) }
+    ensures { IfOk result (λ q. q ≡ record {
+      patterns = map (λ p. p.pattern) triples.items;
+      names = texts.items;
+      selected = selected.items;
+    }) }
 {
     let patterns = patterns(alloc, triples)?;
     Ok(Query::new(patterns, texts, selected))
@@ -144,9 +151,11 @@ fn finish(
 
 /// The query that the tokens from SELECT on are, or its excess of patterns.
 pub fn build(alloc: Global, prefixes: &Prefixes, body: &[Word]) -> Result<Query, QueryFault>
-    requires { length body.now ≤ 262144 }
-    ensures ok { IfOk result (λ q. (q ≡ query_of (λ n. get_by_text prefixes.now n) body.now) × (excess (triples_of (λ n. get_by_text prefixes.now n) body.now) ≡ None)) }
-    ensures bad { (w : QueryWhy) (at : ℕ) → IsErrOf result (QueryFault.Bad at w) → (w ≡ QueryWhy.TooManyPatterns) × (excess (triples_of (λ n. get_by_text prefixes.now n) body.now) ≡ Some at) }
+    requires { length body.now ≤ LONGEST_QUERY }
+    ensures ok { IfOk result (λ q. (q ≡ query_of (iris prefixes.now) body.now)
+        × (excess (triples_of (iris prefixes.now) body.now) ≡ None)) }
+    ensures bad { (w : QueryWhy) (at : ℕ) → IsErrOf result (QueryFault.Bad at w)
+        → (w ≡ QueryWhy.TooManyPatterns) × (excess (triples_of (iris prefixes.now) body.now) ≡ Some at) }
 {
     let (select, block) = body.split_at(before_brace(body));
     if let Some(at) = excess_in(block) {

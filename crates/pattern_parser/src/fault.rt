@@ -5,7 +5,7 @@ use text_base::OutOfMemory;
 /// this kind the first place. Places are in bytes, from 0.
 #[derive(Clone, Copy, Debug, PartialEq, Eq)]
 pub enum QueryWhy {
-    /// The text has more than 262144 bytes; the place is 262144.
+    /// The text has more than `LONGEST_QUERY` bytes (262144); the place is that number.
     TooLong,
     /// The text is not UTF-8; the place is the length of its longest prefix that is.
     Utf8,
@@ -21,7 +21,7 @@ pub enum QueryWhy {
     /// A string with the datatype rdf:langString, which has no language tag (RDF 1.1 Concepts,
     /// section 3.3); the first.
     LangString,
-    /// More than 64 triple patterns; the object that completes the 65th.
+    /// More than `MOST_PATTERNS` triple patterns (64); the object that completes one too many.
     TooManyPatterns,
 }
 

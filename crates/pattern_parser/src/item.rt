@@ -1,10 +1,9 @@
 // The terms and names of a query, with the marks between them.
 ghost use Rattle.std.specs.Prelude.{◌≡◌, ◌<◌, ◌≤◌, ◌+◌, ◌-◌, ◌^◌, ◌++◌, ◌∷◌, ℕ, List, length, codes, OnOk, IfOk, option_copied};
-ghost use Rattle.std.specs.BTreeMap.{get_by_text};
 ghost use Rattle.pattern_parser.specs.Names.{with_name, name_text};
 ghost use Rattle.pattern_parser.specs.Numbers.{AreNumbered};
-ghost use Rattle.pattern_parser.specs.Prefixes.{iri_text};
-ghost use Rattle.pattern_parser.specs.Items.{rdf_type, xsd_integer, xsd_decimal, xsd_double, xsd_boolean, iri_term, typed_term, tagged_term, datatype_term, string_before, string_term, term_of, part_of, more_after, more, mark_of, item_of, items_after, names_after};
+ghost use Rattle.pattern_parser.specs.Prefixes.{iri_text, iris};
+ghost use Rattle.pattern_parser.specs.Items.{rdf_type, iri_term, typed_term, tagged_term, datatype_of, datatype_term, string_before, string_term, term_of, part_of, more_after, more, mark_of, item_of, items_after, names_after};
 
 use crate::names::Names;
 use crate::prefixes::{Prefixes, iri_text};
@@ -69,32 +68,17 @@ fn type_term(alloc: Global) -> Result<Term, OutOfMemory>
     Ok(iri_term(text))
 }
 
-#[tactic(auto, unfolding(crate::specs::Items::xsd_integer))]
-fn integer(alloc: Global, form: &str) -> Result<Term, OutOfMemory>
-    ensures { IfOk result (λ t. t ≡ typed_term form.now xsd_integer) }
+/// The datatype of a token that is a number or a truth value.
+#[tactic(auto, unfolding(crate::specs::Items::xsd_integer, crate::specs::Items::xsd_decimal, crate::specs::Items::xsd_double, crate::specs::Items::xsd_boolean))]
+fn datatype_of(value: &Value) -> &'static str
+    ensures { result.now ≡ datatype_of value.now }
 {
-    typed_term(alloc, form, "http://www.w3.org/2001/XMLSchema#integer")
-}
-
-#[tactic(auto, unfolding(crate::specs::Items::xsd_decimal))]
-fn decimal(alloc: Global, form: &str) -> Result<Term, OutOfMemory>
-    ensures { IfOk result (λ t. t ≡ typed_term form.now xsd_decimal) }
-{
-    typed_term(alloc, form, "http://www.w3.org/2001/XMLSchema#decimal")
-}
-
-#[tactic(auto, unfolding(crate::specs::Items::xsd_double))]
-fn double(alloc: Global, form: &str) -> Result<Term, OutOfMemory>
-    ensures { IfOk result (λ t. t ≡ typed_term form.now xsd_double) }
-{
-    typed_term(alloc, form, "http://www.w3.org/2001/XMLSchema#double")
-}
-
-#[tactic(auto, unfolding(crate::specs::Items::xsd_boolean))]
-fn boolean(alloc: Global, form: &str) -> Result<Term, OutOfMemory>
-    ensures { IfOk result (λ t. t ≡ typed_term form.now xsd_boolean) }
-{
-    typed_term(alloc, form, "http://www.w3.org/2001/XMLSchema#boolean")
+    match value {
+        Value::Integer(_) => "http://www.w3.org/2001/XMLSchema#integer",
+        Value::Decimal(_) => "http://www.w3.org/2001/XMLSchema#decimal",
+        Value::Double(_) => "http://www.w3.org/2001/XMLSchema#double",
+        _ => "http://www.w3.org/2001/XMLSchema#boolean",
+    }
 }
 
 /// A literal with the datatype that a token stands for.
@@ -104,7 +88,7 @@ fn typed_by(
     form: &str,
     datatype: &Value,
 ) -> Result<Term, OutOfMemory>
-    ensures { IfOk result (λ t. t ≡ typed_term form.now (iri_text (λ q. get_by_text prefixes.now q) datatype.now)) }
+    ensures { IfOk result (λ t. t ≡ typed_term form.now (iri_text (iris prefixes.now) datatype.now)) }
 {
     let text = iri_text(alloc, prefixes, datatype)?;
     typed_term(alloc, form, text.as_str())
@@ -117,7 +101,7 @@ fn datatype_term(
     form: &str,
     rest: &[Word],
 ) -> Result<Term, OutOfMemory>
-    ensures { IfOk result (λ t. t ≡ datatype_term (λ q. get_by_text prefixes.now q) form.now rest.now) }
+    ensures { IfOk result (λ t. t ≡ datatype_term (iris prefixes.now) form.now rest.now) }
 {
     match rest {
         [] => Term::plain(alloc, form),
@@ -133,7 +117,7 @@ fn string_before(
     value: &Value,
     rest: &[Word],
 ) -> Result<Term, OutOfMemory>
-    ensures { IfOk result (λ t. t ≡ string_before (λ q. get_by_text prefixes.now q) form.now value.now rest.now) }
+    ensures { IfOk result (λ t. t ≡ string_before (iris prefixes.now) form.now value.now rest.now) }
 {
     match value {
         Value::Tag(tag) => tagged_term(alloc, form, tag.as_str()),
@@ -149,7 +133,7 @@ fn string_term(
     form: &str,
     rest: &[Word],
 ) -> Result<Term, OutOfMemory>
-    ensures { IfOk result (λ t. t ≡ string_term (λ q. get_by_text prefixes.now q) form.now rest.now) }
+    ensures { IfOk result (λ t. t ≡ string_term (iris prefixes.now) form.now rest.now) }
 {
     match rest {
         [] => Term::plain(alloc, form),
@@ -158,7 +142,7 @@ fn string_term(
 }
 
 fn iri_part(alloc: Global, prefixes: &Prefixes, value: &Value) -> Result<Term, OutOfMemory>
-    ensures { IfOk result (λ t. t ≡ iri_term (iri_text (λ q. get_by_text prefixes.now q) value.now)) }
+    ensures { IfOk result (λ t. t ≡ iri_term (iri_text (iris prefixes.now) value.now)) }
 {
     Ok(iri_term(iri_text(alloc, prefixes, value)?))
 }
@@ -170,18 +154,18 @@ fn term_of(
     value: &Value,
     rest: &[Word],
 ) -> Result<Option<Term>, OutOfMemory>
-    ensures { IfOk result (λ o. o ≡ term_of (λ q. get_by_text prefixes.now q) value.now rest.now) }
+    ensures { IfOk result (λ o. o ≡ term_of (iris prefixes.now) value.now rest.now) }
 {
     Ok(Some(match value {
         Value::Iri(_) | Value::Prefix(_) | Value::Prefixed(_, _) => {
             iri_part(alloc, prefixes, value)?
         }
         Value::Str(form) => string_term(alloc, prefixes, form.as_str(), rest)?,
-        Value::Integer(form) => integer(alloc, form.as_str())?,
-        Value::Decimal(form) => decimal(alloc, form.as_str())?,
-        Value::Double(form) => double(alloc, form.as_str())?,
-        Value::True => boolean(alloc, "true")?,
-        Value::False => boolean(alloc, "false")?,
+        Value::Integer(form) => typed_term(alloc, form.as_str(), datatype_of(value))?,
+        Value::Decimal(form) => typed_term(alloc, form.as_str(), datatype_of(value))?,
+        Value::Double(form) => typed_term(alloc, form.as_str(), datatype_of(value))?,
+        Value::True => typed_term(alloc, "true", datatype_of(value))?,
+        Value::False => typed_term(alloc, "false", datatype_of(value))?,
         Value::TypeWord => type_term(alloc)?,
         _ => return Ok(None),
     }))
@@ -210,7 +194,7 @@ fn part_of(
 ) -> Result<Option<Part>, OutOfMemory>
     requires numbered { AreNumbered names.old }
     requires few { length names.old.texts.items < 2 ^ 32 - 1 }
-    ensures part { IfOk result (λ o. o ≡ part_of (λ q. get_by_text prefixes.now q) names.old.texts.items value.now rest.now) }
+    ensures part { IfOk result (λ o. o ≡ part_of (iris prefixes.now) names.old.texts.items value.now rest.now) }
     ensures names { OnOk result (names.new.texts.items ≡ with_name names.old.texts.items (name_text value.now)) }
     ensures numbered { OnOk result (AreNumbered names.new) }
 {
@@ -287,7 +271,9 @@ fn take_word(
     requires numbered { AreNumbered names.old }
     requires few { length names.old.texts.items < 2 ^ 32 - 1 }
     ensures more { IfOk result (λ n. n ≡ more word.now.value rest.now) }
-    ensures items { OnOk result (items.new.items ≡ items.old.items ++ item_of (part_of (λ q. get_by_text prefixes.now q) names.old.texts.items word.now.value rest.now) word.now.at word.now.value) }
+    ensures items { OnOk result (items.new.items ≡ items.old.items
+        ++ item_of (part_of (iris prefixes.now) names.old.texts.items word.now.value rest.now)
+        word.now.at word.now.value) }
     ensures names { OnOk result (names.new.texts.items ≡ with_name names.old.texts.items (name_text word.now.value)) }
     ensures numbered { OnOk result (AreNumbered names.new) }
 {
@@ -309,8 +295,11 @@ fn take_or_skip(
 ) -> Result<usize, OutOfMemory>
     requires numbered { AreNumbered names.old }
     requires few { length names.old.texts.items < 2 ^ 32 - 1 }
-    ensures items { IfOk result (λ n. items.new.items ++ items_after (λ q. get_by_text prefixes.now q) names.new.texts.items n rest.now ≡ items.old.items ++ items_after (λ q. get_by_text prefixes.now q) names.old.texts.items skip (word.now ∷ rest.now)) }
-    ensures names { IfOk result (λ n. names_after names.new.texts.items n rest.now ≡ names_after names.old.texts.items skip (word.now ∷ rest.now)) }
+    ensures items { IfOk result (λ n.
+        items.new.items ++ items_after (iris prefixes.now) names.new.texts.items n rest.now
+        ≡ items.old.items ++ items_after (iris prefixes.now) names.old.texts.items skip (word.now ∷ rest.now)) }
+    ensures names { IfOk result (λ n. names_after names.new.texts.items n rest.now
+        ≡ names_after names.old.texts.items skip (word.now ∷ rest.now)) }
     ensures numbered { OnOk result (AreNumbered names.new) }
     ensures few { OnOk result (length names.new.texts.items ≤ length names.old.texts.items + 1) }
 {
@@ -330,7 +319,7 @@ pub fn items_of(
 ) -> Result<Vec<Item>, OutOfMemory>
     requires numbered { AreNumbered names.old }
     requires few { length names.old.texts.items + length words.now < 2 ^ 32 - 1 }
-    ensures items { IfOk result (λ v. v.items ≡ items_after (λ q. get_by_text prefixes.now q) names.old.texts.items 0 words.now) }
+    ensures items { IfOk result (λ v. v.items ≡ items_after (iris prefixes.now) names.old.texts.items 0 words.now) }
     ensures names { OnOk result (names.new.texts.items ≡ names_after names.old.texts.items 0 words.now) }
     ensures numbered { OnOk result (AreNumbered names.new) }
     ensures few { OnOk result (length names.new.texts.items ≤ length names.old.texts.items + length words.now) }
@@ -371,7 +360,8 @@ fn name_or_skip(
 ) -> Result<usize, OutOfMemory>
     requires numbered { AreNumbered names.old }
     requires few { length names.old.texts.items < 2 ^ 32 - 1 }
-    ensures names { IfOk result (λ n. names_after names.new.texts.items n rest.now ≡ names_after names.old.texts.items skip (word.now ∷ rest.now)) }
+    ensures names { IfOk result (λ n. names_after names.new.texts.items n rest.now
+        ≡ names_after names.old.texts.items skip (word.now ∷ rest.now)) }
     ensures numbered { OnOk result (AreNumbered names.new) }
     ensures few { OnOk result (length names.new.texts.items ≤ length names.old.texts.items + 1) }
 {

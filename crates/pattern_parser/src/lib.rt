@@ -15,6 +15,7 @@
 mod build;
 mod fault;
 mod item;
+pub mod laws;
 mod limit;
 mod names;
 mod prefixes;
@@ -25,13 +26,9 @@ mod triple;
 
 pub use build::{block_patterns, check_terms, chosen, listed};
 pub use fault::{QueryFault, QueryWhy};
-pub use limit::{PatternCount, count_patterns};
+pub use limit::{MOST_PATTERNS, PatternCount, count_patterns};
 pub use names::Names;
 pub use prefixes::{Prefixes, prefixes_of};
-pub use reading::{
-    one_query, parse, place_or, query_of_words, read_as_produced, terms_are_short,
-    terms_as_written, token_words,
-};
+pub use reading::{parse, place_or, query_of_words, token_words};
 pub use select::{before_brace, before_select, has_star, is_plain};
 pub use token::{Token, TokenKind, tokens};
-pub use triple::as_produced;

@@ -1,14 +1,16 @@
 // Where a block has one triple pattern too many. It is found from the tokens alone, before a term
 // is made: a long subject is copied once for each of its objects, so that making all patterns first
 // would take memory that grows with the square of the text.
-ghost use Rattle.std.specs.Prelude.{◌≡◌, ◌∷◌, ℕ, List, Option, None, IsTrue, IsFalse, Some};
-ghost use Rattle.pattern_parser.specs.Items.{items_after};
+ghost use Rattle.std.specs.Prelude.{◌≡◌, ◌∷◌, ℕ, List, Option, IsTrue, IsFalse, Some};
 ghost use Rattle.pattern_parser.specs.Limits.{role_of, next_after, is_object, count_after, Counts};
 ghost use Rattle.pattern_parser.specs.Queries.{excess};
-ghost use Rattle.pattern_parser.specs.Triples.{triples_after};
+ghost use Rattle.pattern_parser.specs.Triples.{block_triples};
 
 use crate::item::more;
 use query_words::word::{Value, Word};
+
+/// The most triple patterns of a query.
+pub const MOST_PATTERNS: usize = 64;
 
 /// What a token is in a block.
 #[derive(Clone, Copy, Debug, PartialEq, Eq)]
@@ -84,8 +86,10 @@ impl Walk {
     /// Takes one more token with those after it, and says whether it is the object that completes
     /// one pattern too many.
     fn take(&mut self, word: &Word, rest: &[Word]) -> bool
-        ensures over { IsTrue result → count_after self.old.next self.old.left self.old.skip (word.now ∷ rest.now) ≡ PatternCount.Over word.now.at }
-        ensures within { IsFalse result → count_after self.new.next self.new.left self.new.skip rest.now ≡ count_after self.old.next self.old.left self.old.skip (word.now ∷ rest.now) }
+        ensures over { IsTrue result → count_after self.old.next self.old.left self.old.skip (word.now ∷ rest.now)
+            ≡ PatternCount.Over word.now.at }
+        ensures within { IsFalse result → count_after self.new.next self.new.left self.new.skip rest.now
+            ≡ count_after self.old.next self.old.left self.old.skip (word.now ∷ rest.now) }
     {
         if self.skip > 0 {
             self.skip -= 1;
@@ -131,17 +135,19 @@ fn walked(left: usize, words: &[Word]) -> PatternCount
 /// Counts the patterns of a block of tokens, of which there may be so many, whatever its prefixes stand
 /// for.
 pub fn count_patterns(left: usize, words: &[Word]) -> PatternCount
-    ensures { (iri : List ℕ → Option (List ℕ)) (names : List (List ℕ)) → Counts left (triples_after None None (items_after iri names 0 words.now)) result }
+    ensures { (iri : List ℕ → Option (List ℕ)) (names : List (List ℕ))
+        → Counts left (block_triples iri names words.now) result }
 {
     walked(left, words)
 }
 
-/// The place of the object that completes the 65th pattern of a block, if there is one, whatever
-/// its prefixes stand for.
+/// The place of the object that completes one pattern of a block more than a query may have, if there is
+/// one, whatever its prefixes stand for.
 pub fn excess_in(words: &[Word]) -> Option<usize>
-    ensures { (iri : List ℕ → Option (List ℕ)) (names : List (List ℕ)) → result ≡ excess (triples_after None None (items_after iri names 0 words.now)) }
+    ensures { (iri : List ℕ → Option (List ℕ)) (names : List (List ℕ))
+        → result ≡ excess (block_triples iri names words.now) }
 {
-    match count_patterns(64, words) {
+    match count_patterns(MOST_PATTERNS, words) {
         PatternCount::Over(at) => Some(at),
         PatternCount::Left(_) => None,
     }

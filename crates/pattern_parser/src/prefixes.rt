@@ -4,7 +4,7 @@ ghost use Rattle.std.specs.Option.{is_some};
 ghost use Rattle.std.specs.BTreeMap.{get_by_text};
 ghost use Rattle.std.specs.Str.{bytes_eq};
 ghost use Rattle.rdf_terms.specs.Datatype.{is_lang_string, lang_string};
-ghost use Rattle.pattern_parser.specs.Prefixes.{or_else, declares, first_iri, iri_of, iri_text, is_unknown, is_relative, first_at, is_carets, gives_lang_string, is_lang, lang_at};
+ghost use Rattle.pattern_parser.specs.Prefixes.{iris, or_else, declares, first_iri, iri_of, iri_text, is_unknown, is_relative, first_at, is_carets, gives_lang_string, is_lang, lang_at};
 
 use query_words::word::{Value, Word};
 use rdf_terms::{is_iri, is_lang_string};
@@ -17,7 +17,8 @@ pub type Prefixes = BTreeMap<String, Text>;
 
 /// Declares a prefix, in place of what it was before.
 fn declare(alloc: Global, prefixes: &mut Prefixes, name: &str, iri: &str) -> Result<(), OutOfMemory>
-    ensures { OnOk result ((q : List ℕ) → get_by_text prefixes.new q ≡ (if bytes_eq q name.now then Some iri.now else get_by_text prefixes.old q)) }
+    ensures { OnOk result ((q : List ℕ) → get_by_text prefixes.new q
+        ≡ (if bytes_eq q name.now then Some iri.now else get_by_text prefixes.old q)) }
 {
     let text = Text::copy(alloc, iri)?;
     let _ = prefixes.insert(String::from_str(alloc, name)?, text)?;
@@ -44,7 +45,8 @@ fn declare_word(
     word: &Word,
     rest: &[Word],
 ) -> Result<(), OutOfMemory>
-    ensures { OnOk result ((q : List ℕ) → get_by_text prefixes.new q ≡ or_else (declares word.now.value rest.now q) (get_by_text prefixes.old q)) }
+    ensures { OnOk result ((q : List ℕ) → get_by_text prefixes.new q
+        ≡ or_else (declares word.now.value rest.now q) (get_by_text prefixes.old q)) }
 {
     match &word.value {
         Value::Prefix(name) => match first_iri(rest) {
@@ -87,7 +89,7 @@ fn joined(alloc: Global, prefixes: &Prefixes, name: &str, local: &str) -> Result
 
 /// The IRI that a token stands for. `OutOfMemory` comes only where memory runs out.
 pub fn iri_text(alloc: Global, prefixes: &Prefixes, value: &Value) -> Result<Text, OutOfMemory>
-    ensures { IfOk result (λ t. t ≡ iri_text (λ q. get_by_text prefixes.now q) value.now) }
+    ensures { IfOk result (λ t. t ≡ iri_text (iris prefixes.now) value.now) }
 {
     match value {
         Value::Iri(text) => Text::copy(alloc, text.as_str()),
@@ -104,7 +106,7 @@ fn is_declared(prefixes: &Prefixes, name: &str) -> bool
 }
 
 fn is_unknown(prefixes: &Prefixes, value: &Value) -> bool
-    ensures { result ≡ is_unknown (λ q. get_by_text prefixes.now q) value.now }
+    ensures { result ≡ is_unknown (iris prefixes.now) value.now }
 {
     match value {
         Value::Prefix(name) => !is_declared(prefixes, name.as_str()),
@@ -115,7 +117,7 @@ fn is_unknown(prefixes: &Prefixes, value: &Value) -> bool
 
 /// The place of the first name whose prefix is not declared.
 pub fn first_unknown(prefixes: &Prefixes, words: &[Word]) -> Option<usize>
-    ensures { result ≡ first_at (is_unknown (λ q. get_by_text prefixes.now q)) words.now }
+    ensures { result ≡ first_at (is_unknown (iris prefixes.now)) words.now }
 {
     let word = words.iter().find(|word| is_unknown(prefixes, &word.value))?;
     Some(word.at)
@@ -164,7 +166,7 @@ fn joins_lang_string(front: &str, local: &str) -> bool
 
 /// Whether the IRI that a token stands for is rdf:langString.
 fn stands_for_lang_string(prefixes: &Prefixes, value: &Value) -> bool
-    ensures { result ≡ is_lang_string (iri_text (λ q. get_by_text prefixes.now q) value.now) }
+    ensures { result ≡ is_lang_string (iri_text (iris prefixes.now) value.now) }
 {
     match value {
         Value::Iri(text) => is_lang_string(text.as_str()),
@@ -177,7 +179,7 @@ fn stands_for_lang_string(prefixes: &Prefixes, value: &Value) -> bool
 }
 
 fn gives_lang_string(prefixes: &Prefixes, words: &[Word]) -> bool
-    ensures { result ≡ gives_lang_string (λ q. get_by_text prefixes.now q) words.now }
+    ensures { result ≡ gives_lang_string (iris prefixes.now) words.now }
 {
     match words {
         [carets, datatype, ..] => {
@@ -188,7 +190,7 @@ fn gives_lang_string(prefixes: &Prefixes, words: &[Word]) -> bool
 }
 
 fn is_lang(prefixes: &Prefixes, value: &Value, rest: &[Word]) -> bool
-    ensures { result ≡ is_lang (λ q. get_by_text prefixes.now q) value.now rest.now }
+    ensures { result ≡ is_lang (iris prefixes.now) value.now rest.now }
 {
     match value {
         Value::Str(_) => gives_lang_string(prefixes, rest),
@@ -198,7 +200,7 @@ fn is_lang(prefixes: &Prefixes, value: &Value, rest: &[Word]) -> bool
 
 /// The place of the first string with the datatype rdf:langString.
 pub fn first_lang(prefixes: &Prefixes, words: &[Word]) -> Option<usize>
-    ensures { result ≡ lang_at (λ q. get_by_text prefixes.now q) words.now }
+    ensures { result ≡ lang_at (iris prefixes.now) words.now }
 {
     for (i, word) in words.iter().enumerate() {
         if is_lang(prefixes, &word.value, &words[i + 1..]) {

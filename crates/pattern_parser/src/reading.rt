@@ -1,13 +1,11 @@
 // The query that a text is.
 ghost use Rattle.std.specs.Prelude.{◌≡◌, ◌≤◌, ℕ, length, IfOk, OnOk, IsErrOf, Some, None};
-ghost use Rattle.std.specs.BTreeMap.{get_by_text};
+ghost use Rattle.query_tokens.specs.declared.piece.TheConstants.{LONGEST_QUERY};
 ghost use Rattle.query_words.specs.Words.{kinds_of};
 ghost use Rattle.query_grammar.specs.Grammar.{IsQuery, IsGrammarFault};
 ghost use Rattle.pattern_parser.specs.declared.fault.QueryWhy.{QueryWhy};
-ghost use Rattle.pattern_parser.specs.Read.{ReadAsProduced};
-ghost use Rattle.pattern_parser.specs.Written.{TermsAsWritten};
-ghost use Rattle.pattern_parser.specs.Short.{TermsAreShort};
-ghost use Rattle.pattern_parser.specs.Queries.{place_or, fault_with, later_fault, query_of, prefixes, body, ReadsTokens, ReadsQuery, OneQuery, FaultAt, IsTokenFaultAt};
+ghost use Rattle.pattern_parser.specs.Prefixes.{iris};
+ghost use Rattle.pattern_parser.specs.Queries.{place_or, fault_with, later_fault, query_of, prefixes, body, ReadsTokens, ReadsQuery, FaultAt, IsTokenFaultAt};
 
 use crate::build::{build, check_terms};
 use crate::fault::{QueryFault, QueryWhy};
@@ -15,15 +13,14 @@ use crate::prefixes::{Prefixes, prefixes_of};
 use crate::select::before_select;
 use crate::token::{characters, pieces_of, text_of};
 use bgp_core::Query;
-use query_grammar::grammar::{grammar_fault, one_fault};
-use query_tokens::piece::one_reading;
+use query_grammar::grammar::grammar_fault;
 use query_words::word::{Word, kinds_of, words_of};
 use std::alloc::Global;
 
 /// What the tokens of a text say.
 pub fn token_words(alloc: Global, text: &[u8]) -> Result<Vec<Word>, QueryFault>
     ensures words { IfOk result (λ v. ReadsTokens text.now v.items) }
-    ensures few { IfOk result (λ v. length v.items ≤ 262144) }
+    ensures few { IfOk result (λ v. length v.items ≤ LONGEST_QUERY) }
     ensures bad { (w : QueryWhy) (at : ℕ) → IsErrOf result (QueryFault.Bad at w) → IsTokenFaultAt text.now w at }
 {
     let chars = characters(alloc, text_of(text)?)?;
@@ -44,7 +41,8 @@ pub fn place_or(words: &[Word], number: usize, end: usize) -> usize
 /// Finds the first token with which the tokens so far begin no query.
 fn check_grammar(alloc: Global, words: &[Word], end: usize) -> Result<(), QueryFault>
     ensures ok { OnOk result (IsQuery (kinds_of words.now)) }
-    ensures bad { (w : QueryWhy) (at : ℕ) → IsErrOf result (QueryFault.Bad at w) → (w ≡ QueryWhy.Grammar) × (n : ℕ) × IsGrammarFault (kinds_of words.now) n × (at ≡ place_or words.now n end) }
+    ensures bad { (w : QueryWhy) (at : ℕ) → IsErrOf result (QueryFault.Bad at w) → (w ≡ QueryWhy.Grammar)
+        × (n : ℕ) × IsGrammarFault (kinds_of words.now) n × (at ≡ place_or words.now n end) }
 {
     let kinds = kinds_of(alloc, words)?;
     match grammar_fault(kinds.as_slice()) {
@@ -64,10 +62,11 @@ fn query_with(
     words: &[Word],
     body: &[Word],
 ) -> Result<Query, QueryFault>
-    requires { length body.now ≤ 262144 }
-    ensures fine { OnOk result (fault_with (λ n. get_by_text prefixes.now n) words.now body.now ≡ None) }
-    ensures query { IfOk result (λ q. q ≡ query_of (λ n. get_by_text prefixes.now n) body.now) }
-    ensures bad { (w : QueryWhy) (at : ℕ) → IsErrOf result (QueryFault.Bad at w) → fault_with (λ n. get_by_text prefixes.now n) words.now body.now ≡ Some (w, at) }
+    requires { length body.now ≤ LONGEST_QUERY }
+    ensures fine { OnOk result (fault_with (iris prefixes.now) words.now body.now ≡ None) }
+    ensures query { IfOk result (λ q. q ≡ query_of (iris prefixes.now) body.now) }
+    ensures bad { (w : QueryWhy) (at : ℕ) → IsErrOf result (QueryFault.Bad at w)
+        → fault_with (iris prefixes.now) words.now body.now ≡ Some (w, at) }
 {
     check_terms(prefixes, words, body)?;
     build(alloc, prefixes, body)
@@ -75,10 +74,11 @@ fn query_with(
 
 /// The query of tokens that the grammar reads, or the first fault of what they say.
 pub fn query_of_words(alloc: Global, words: &[Word]) -> Result<Query, QueryFault>
-    requires { length words.now ≤ 262144 }
+    requires { length words.now ≤ LONGEST_QUERY }
     ensures fine { OnOk result (later_fault words.now ≡ None) }
     ensures query { IfOk result (λ q. q ≡ query_of (prefixes words.now) (body words.now)) }
-    ensures bad { (w : QueryWhy) (at : ℕ) → IsErrOf result (QueryFault.Bad at w) → later_fault words.now ≡ Some (w, at) }
+    ensures bad { (w : QueryWhy) (at : ℕ) → IsErrOf result (QueryFault.Bad at w)
+        → later_fault words.now ≡ Some (w, at) }
 {
     let (prologue, body) = words.split_at(before_select(words));
     let prefixes = prefixes_of(alloc, prologue)?;
@@ -96,31 +96,3 @@ pub fn parse(alloc: Global, text: &[u8]) -> Result<Query, QueryFault>
     check_grammar(alloc, words.as_slice(), text.len())?;
     query_of_words(alloc, words.as_slice())
 }
-
-/// A text is exactly one of the two: one query, or a text with one first fault, which has a kind
-/// and a place.
-pub fn one_query()
-    ensures { OneQuery }
-{
-    one_reading();
-    one_fault();
-}
-
-/// Between the braces of each text that is read stands a block of SPARQL's productions, or nothing,
-/// and the query's patterns are those that the productions give (SPARQL 1.1, section 19.8).
-pub fn read_as_produced()
-    ensures { ReadAsProduced }
-{}
-
-/// In each query every token that is a term stands for it as it is written: no IRI, datatype or
-/// language tag is dropped (SPARQL 1.1, section 4.1).
-pub fn terms_as_written()
-    ensures { TermsAsWritten }
-{}
-
-/// In each query the texts of a fixed term, its IRI or its form with the datatype or language tag,
-/// have at most 262204 bytes together. They stand in the query's text, which has at most 262144
-/// bytes, but for rdf:type and the datatypes of numbers, `true` and `false`.
-pub fn terms_are_short()
-    ensures { TermsAreShort }
-{}

@@ -1,12 +1,14 @@
 // The tokens of a text.
 ghost use Rattle.std.specs.Prelude.{◌≡◌, ◌≤◌, ℕ, length, map, IfOk, IfErr, OnOk, IsErrOf, All};
 ghost use Rattle.std.specs.Str.{chars, IsUtf8};
+ghost use Rattle.query_tokens.specs.declared.piece.TheConstants.{LONGEST_QUERY};
 ghost use Rattle.query_tokens.specs.Pieces.{AreTokens, IsTokenFault, byte_place, Fits};
 ghost use Rattle.pattern_parser.specs.declared.fault.QueryWhy.{QueryWhy};
 ghost use Rattle.pattern_parser.specs.Queries.{IsTokenFaultAt};
 ghost use Rattle.pattern_parser.specs.Tokens.{token_kind, token_of, IsTokenList};
 
 use crate::fault::{QueryFault, QueryWhy};
+use query_tokens::LONGEST_QUERY;
 use query_tokens::kind::PieceKind;
 use query_tokens::piece::{Piece, PieceFault, pieces};
 use query_words::text::decode;
@@ -77,12 +79,12 @@ fn token_kind(kind: PieceKind) -> TokenKind
 pub fn text_of(bytes: &[u8]) -> Result<&str, QueryFault>
     ensures text { IfOk result (λ s. s.now ≡ bytes.now) }
     ensures utf8 { OnOk result (IsUtf8 bytes.now) }
-    ensures short { OnOk result (length bytes.now ≤ 262144) }
+    ensures short { OnOk result (length bytes.now ≤ LONGEST_QUERY) }
     ensures bad { (w : QueryWhy) (at : ℕ) → IsErrOf result (QueryFault.Bad at w) → IsTokenFaultAt bytes.now w at }
 {
-    if bytes.len() > 262144 {
+    if bytes.len() > LONGEST_QUERY {
         return Err(QueryFault::Bad {
-            at: 262144,
+            at: LONGEST_QUERY,
             why: QueryWhy::TooLong,
         });
     }
@@ -97,9 +99,9 @@ pub fn text_of(bytes: &[u8]) -> Result<&str, QueryFault>
 
 /// The characters of a text.
 pub fn characters(alloc: Global, text: &str) -> Result<Vec<char>, QueryFault>
-    requires { length text.now ≤ 262144 }
+    requires { length text.now ≤ LONGEST_QUERY }
     ensures chars { IfOk result (λ v. v.items ≡ chars text.now) }
-    ensures short { IfOk result (λ v. length v.items ≤ 262144) }
+    ensures short { IfOk result (λ v. length v.items ≤ LONGEST_QUERY) }
     ensures memory { IfErr result (λ e. e ≡ QueryFault.OutOfMemory) }
 {
     match decode(alloc, text) {
@@ -110,10 +112,11 @@ pub fn characters(alloc: Global, text: &str) -> Result<Vec<char>, QueryFault>
 
 /// The tokens among some characters.
 pub fn pieces_of(alloc: Global, chars: &[char]) -> Result<Vec<Piece>, QueryFault>
-    requires { length chars.now ≤ 262144 }
+    requires { length chars.now ≤ LONGEST_QUERY }
     ensures tokens { IfOk result (λ v. AreTokens chars.now v.items) }
     ensures fits { IfOk result (λ v. All (Fits chars.now) v.items) }
-    ensures bad { (w : QueryWhy) (at : ℕ) → IsErrOf result (QueryFault.Bad at w) → (w ≡ QueryWhy.Token) × (place : ℕ) × IsTokenFault chars.now place × (at ≡ byte_place chars.now place) }
+    ensures bad { (w : QueryWhy) (at : ℕ) → IsErrOf result (QueryFault.Bad at w) → (w ≡ QueryWhy.Token)
+        × (place : ℕ) × IsTokenFault chars.now place × (at ≡ byte_place chars.now place) }
 {
     match pieces(alloc, chars) {
         Ok(pieces) => Ok(pieces),
@@ -141,8 +144,8 @@ fn tokens_of(alloc: Global, pieces: &[Piece]) -> Result<Vec<Token>, OutOfMemory>
 
 /// The tokens of a query's text (SPARQL 1.1, section 19.8), by longest match, in rising order;
 /// white space and comments stand between them and are none. `Bad` exactly where the text has more
-/// than 262144 bytes (TooLong), is not UTF-8 (Utf8), or has a place that begins no token (Token),
-/// with the place that the kind names; `OutOfMemory` comes only where memory runs out.
+/// than `LONGEST_QUERY` bytes (262144; TooLong), is not UTF-8 (Utf8), or has a place that begins no token
+/// (Token), with the place that the kind names; `OutOfMemory` comes only where memory runs out.
 pub fn tokens(alloc: Global, text: &[u8]) -> Result<Vec<Token>, QueryFault>
     ensures ok { IfOk result (λ v. IsTokenList text.now v.items) }
     ensures bad { (w : QueryWhy) (at : ℕ) → IsErrOf result (QueryFault.Bad at w) → IsTokenFaultAt text.now w at }

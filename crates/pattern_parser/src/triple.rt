@@ -1,7 +1,6 @@
 // The triple patterns of a query.
 ghost use Rattle.std.specs.Prelude.{◌≡◌, ◌++◌, ◌∷◌, List, None, IfOk, OnOk};
 ghost use Rattle.pattern_parser.specs.declared.item.Item.{Item};
-ghost use Rattle.pattern_parser.specs.Productions.{AsProduced};
 ghost use Rattle.pattern_parser.specs.Triples.{placed, triples_after};
 
 use crate::item::Item;
@@ -45,7 +44,9 @@ fn pattern_at(
 impl Reading {
     /// Takes a term or name.
     fn take_part(&mut self, alloc: Global, part: Part, at: usize) -> Result<(), OutOfMemory>
-        ensures { OnOk result ((rest : List Item) → self.new.triples.items ++ triples_after self.new.subject self.new.verb rest ≡ self.old.triples.items ++ triples_after self.old.subject self.old.verb (Item.Part part at ∷ rest)) }
+        ensures { OnOk result ((rest : List Item)
+            → self.new.triples.items ++ triples_after self.new.subject self.new.verb rest
+            ≡ self.old.triples.items ++ triples_after self.old.subject self.old.verb (Item.Part part at ∷ rest)) }
     {
         match &self.subject {
             None => {
@@ -65,7 +66,9 @@ impl Reading {
 
     /// Takes one more item.
     fn take(&mut self, alloc: Global, item: Item) -> Result<(), OutOfMemory>
-        ensures { OnOk result ((rest : List Item) → self.new.triples.items ++ triples_after self.new.subject self.new.verb rest ≡ self.old.triples.items ++ triples_after self.old.subject self.old.verb (item ∷ rest)) }
+        ensures { OnOk result ((rest : List Item)
+            → self.new.triples.items ++ triples_after self.new.subject self.new.verb rest
+            ≡ self.old.triples.items ++ triples_after self.old.subject self.old.verb (item ∷ rest)) }
     {
         match item {
             Item::Part(part, at) => self.take_part(alloc, part, at)?,
@@ -94,9 +97,3 @@ pub fn triples(alloc: Global, items: Vec<Item>) -> Result<Vec<Placed>, OutOfMemo
     }
     Ok(reading.triples)
 }
-
-/// The patterns that the productions of a block give, each its own (TriplesBlock, TriplesSameSubject,
-/// PropertyListNotEmpty, ObjectList; SPARQL 1.1, section 19.8), are those that are read.
-pub fn as_produced()
-    ensures { AsProduced }
-{}
