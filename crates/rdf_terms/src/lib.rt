@@ -13,33 +13,30 @@
 //! ```
 #![tactic(auto)]
 
-mod askable;
 mod book;
 mod canon;
 mod datatype;
-mod fragment;
 mod iri;
 mod label;
+pub mod laws;
 mod limits;
 mod order;
-mod selection;
 mod slots;
 mod tag;
 mod term;
 mod valid;
 
-pub use askable::askable_slots_are_kept;
 pub use book::TermBook;
 pub use canon::{after_mark, is_marked, marks};
 pub use datatype::{Datatype, is_datatype, is_lang_string, is_xsd_string};
-pub use fragment::{canonical_len_is, fragment_is_one, no_other_fragment};
 pub use iri::{IriText, has_scheme, is_iri, is_iri_byte};
 pub use label::{Label, is_label, is_label_char, is_label_start};
-pub use limits::{LONGEST_LABEL, LONGEST_READ, LONGEST_TERM, MOST_ROWS, MOST_TRIPLES};
-pub use order::{
-    order_is_total, order_tells_apart, triple_order_is_total, triple_order_tells_apart,
+pub use laws::{
+    askable_slots_are_kept, canonical_len_is, fragment_is_one, lower_is_kept, no_other_fragment,
+    no_rows_select_all, order_is_total, order_tells_apart, selection_is_one, triple_order_is_total,
+    triple_order_tells_apart,
 };
-pub use selection::{no_rows_select_all, selection_is_one};
+pub use limits::{LONGEST_LABEL, LONGEST_READ, LONGEST_TERM, MOST_ROWS, MOST_TRIPLES};
 pub use slots::{Slot, Slots};
-pub use tag::{Tag, is_tag, lower_is_kept, lowered};
+pub use tag::{Tag, is_tag, lowered};
 pub use term::{Kind, Quad, Term, TermFault, Triple};

@@ -1,12 +1,8 @@
 // The order of terms and of triples, found without making canonical text.
-ghost use Rattle.std.specs.Prelude.{ℕ, ◌≡◌, ◌<◌, ◌↔◌, length, List, IsTrue};
-ghost use Rattle.rdf_terms.specs.declared.term.Term.{Term};
-ghost use Rattle.rdf_terms.specs.declared.term.Triple.{Triple};
-ghost use Rattle.std.specs.declared.cmp.Ordering.{Ordering};
-ghost use Rattle.std.specs.Cmp.{IsTotalOrder};
+ghost use Rattle.std.specs.Prelude.{◌≡◌, ◌<◌, length, IsTrue};
 ghost use Rattle.rdf_terms.specs.Fronts.{is_front, byte_behind};
 ghost use Rattle.rdf_terms.specs.Compare.{ended_cmp, first_written, byte_cmp, form_cmp, kind_cmp, term_cmp};
-ghost use Rattle.rdf_terms.specs.Order.{bytes_order, term_order, triple_order};
+ghost use Rattle.rdf_terms.specs.Order.{bytes_order};
 
 use crate::canon::{after_mark, is_marked};
 use crate::{Kind, Term, Triple};
@@ -206,27 +202,3 @@ impl Ord for Triple {
             .then(self.object.cmp(&other.object))
     }
 }
-
-/// The order of terms is total: antisymmetric, transitive, and terms that are equal in it stand alike to each other term.
-#[tactic(auto, using(crate::specs::OrderLaws::term_total))]
-pub fn order_is_total()
-    ensures { IsTotalOrder term_order }
-{}
-
-/// Terms are equal in the order exactly where they are the same term.
-#[tactic(auto, using(crate::specs::OrderLaws::term_equal))]
-pub fn order_tells_apart()
-    ensures { (a b : Term) → (term_order a b ≡ Ordering.Equal) ↔ (a ≡ b) }
-{}
-
-/// The order of triples is total.
-#[tactic(auto, using(crate::specs::OrderLaws::triple_total))]
-pub fn triple_order_is_total()
-    ensures { IsTotalOrder triple_order }
-{}
-
-/// Triples are equal in the order exactly where they are the same triple.
-#[tactic(auto, using(crate::specs::OrderLaws::triple_equal))]
-pub fn triple_order_tells_apart()
-    ensures { (a b : Triple) → (triple_order a b ≡ Ordering.Equal) ↔ (a ≡ b) }
-{}

@@ -58,12 +58,6 @@ pub fn lowered(alloc: Global, text: &str) -> Result<Text, OutOfMemory>
     Ok(Text::from_string(string))
 }
 
-/// A tag in lower case is a tag as a term keeps it, and it is a tag exactly where it was one before.
-#[tactic(auto, using(crate::proofs::Tags::lower_is_kept))]
-pub fn lower_is_kept()
-    ensures { (bytes : List ℕ) → is_lower_tag (lower bytes) ≡ is_tag bytes }
-{}
-
 /// A language tag in lower case, which contracts see as its bytes. RDF takes tags that differ in case for one (RDF 1.1
 /// Concepts 3.3), so each is kept in lower case.
 #[derive(Debug, Drop)]

@@ -273,7 +273,8 @@ impl Term {
         ensures only_iri { is_iri datatype.now ≡ false → IsErrOf result TermFault.Iri }
         ensures lang_string { IsErrOf result TermFault.LangString → IsTrue (is_lang_string datatype.now) }
         ensures only_lang_string { IsTrue (is_lang_string datatype.now) → IsErrOf result TermFault.LangString }
-        ensures memory { IfErr result (λ e. IsTrue (is_iri datatype.now) → is_lang_string datatype.now ≡ false → e ≡ TermFault.OutOfMemory) }
+        ensures memory { IfErr result (λ e. IsTrue (is_iri datatype.now) → is_lang_string datatype.now ≡ false
+            → e ≡ TermFault.OutOfMemory) }
     {
         if is_lang_string(datatype) {
             return Err(TermFault::LangString);
@@ -292,7 +293,8 @@ impl Term {
     /// tag; the only other error is out of memory.
     #[tactic(auto, using(crate::proofs::Tags::lower_is_kept))]
     pub fn tagged(alloc: Global, form: &str, tag: &str) -> Result<Term, TermFault>
-        ensures literal { IfOk result (λ t. (t ≡ Term.Literal form.now (Kind.Tagged (lower tag.now))) × IsTrue (is_tag tag.now)) }
+        ensures literal { IfOk result (λ t. (t ≡ Term.Literal form.now (Kind.Tagged (lower tag.now)))
+            × IsTrue (is_tag tag.now)) }
         ensures refused { IsErrOf result TermFault.Tag → is_tag tag.now ≡ false }
         ensures memory { IfErr result (λ e. IsTrue (is_tag tag.now) → e ≡ TermFault.OutOfMemory) }
         ensures exact { is_tag tag.now ≡ false → IsErrOf result TermFault.Tag }

@@ -25,10 +25,10 @@
 #![tactic(auto)]
 
 mod bytes;
-mod decimal;
 mod drain;
 mod failing;
 mod fault;
+pub mod laws;
 mod limits;
 mod mem_shelf;
 mod mem_sink;
@@ -41,10 +41,10 @@ mod steps;
 mod wire;
 
 pub use bytes::Bytes;
-pub use decimal::numbers_read_back;
 pub use drain::Drain;
 pub use failing::{Failing, Failures};
 pub use fault::Fault;
+pub use laws::numbers_read_back;
 pub use limits::{
     ENOUGH_PENDING, HEAD_LIMIT, HEADS_LIMIT, HIGHEST_PORT, LINE_LIMIT, PADDING_LIMIT,
 };

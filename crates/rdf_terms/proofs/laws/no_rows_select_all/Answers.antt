@@ -1,5 +1,5 @@
 use Rattle.rdf_terms.proofs.SelectionLaws.{all-selected}
-use Rattle.rdf_terms.proofs.selection.no_rows_select_all.Goals as goal
+use Rattle.rdf_terms.proofs.laws.no_rows_select_all.Goals as goal
 
 pub returns : goal.returns
 returns c = all-selected

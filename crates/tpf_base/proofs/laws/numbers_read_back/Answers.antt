@@ -1,4 +1,4 @@
-use Rattle.tpf_base.proofs.decimal.numbers_read_back.Goals as goal
+use Rattle.tpf_base.proofs.laws.numbers_read_back.Goals as goal
 use Rattle.tpf_base.proofs.DecimalTexts.{reads_back, of_their_number, decimal_text-differ, decimal_is}
 
 pub returns-clause-read : goal.returns-clause-read
