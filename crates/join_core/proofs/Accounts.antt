@@ -3,10 +3,10 @@ use Rattle.std.proofs.Common.{◌≡◌, List, [], ◌∷◌, ◌++◌, ap, sym,
 use Rattle.std.specs.List.{flat_map}
 use Rattle.std.specs.List.Sorted.{IsPermutation}
 use Rattle.std.proofs.lemmas.List.Sorted.{IsPermutation-trans, IsPermutation-cons}
+use Rattle.list_laws.proofs.Orders.{same}
 use Rattle.join_core.specs.Rounds.{RoundData}
 use Rattle.bgp_core.specs.declared.pattern.Pattern.{Pattern}
 use Rattle.bgp_core.specs.Solutions.{Places, solutions}
-use Rattle.bgp_core.proofs.Patterns.{same}
 use Rattle.join_core.specs.Worlds.{World}
 use Rattle.join_core.specs.Nodes.{NodeData, round_plan, left, future}
 use Rattle.join_core.specs.Joins.{JoinData, nodes, owed, left_over, Begins}

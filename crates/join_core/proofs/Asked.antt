@@ -3,6 +3,7 @@ use Rattle.std.proofs.Common.{ℕ, zero, suc, ◌≡◌, ◌<◌, ◌≤◌, Boo
 use Rattle.std.specs.List.{All, AllByRecursion, list_all, list_any}
 use Rattle.std.proofs.lemmas.List.Elements.{All-head, All-tail}
 use Rattle.std.proofs.lemmas.Bool.{and_from, and_parts}
+use Rattle.list_laws.proofs.Tests.{all_three}
 use Rattle.rdf_terms.specs.declared.term.Term.{Term}
 use Rattle.rdf_terms.specs.declared.limits.TheConstants.{MOST_ROWS}
 use Rattle.rdf_terms.specs.declared.slots.Slots.{Slots}
@@ -17,7 +18,7 @@ use Rattle.bgp_core.specs.Instances.{slot_of, slot, instance, bound_slot, bound_
 use Rattle.bgp_core.specs.Queries.{IsValidPattern}
 use Rattle.join_core.specs.Blocks.{slots_eq, distinct_behind, distinct_slots, selection_for, is_askable}
 use Rattle.join_core.specs.Nodes.{IsValidRow}
-use Rattle.join_core.proofs.Matching.{three, all_three}
+use Rattle.join_core.proofs.Matching.{three}
 use Rattle.join_core.proofs.Valid.{slot-valid, instance-valid}
 
 -- ---- it can be asked for

@@ -2,32 +2,20 @@
 use Rattle.std.proofs.Common.{◌≡◌, ◌&&◌, true, List, [], ◌∷◌}
 use Rattle.std.specs.List.{list_all, AllByRecursion}
 use Rattle.std.proofs.lemmas.Bool.{and_parts}
-use Rattle.rdf_terms.specs.declared.term.Term.{Term}
-use Rattle.rdf_terms.specs.declared.term.Term.TheVariants.{Iri, Blank, Literal}
 use Rattle.rdf_terms.specs.declared.slots.Slot.{Slot}
 use Rattle.rdf_terms.specs.declared.slots.Slot.TheVariants.{Any, Fixed}
 use Rattle.rdf_terms.specs.declared.slots.Slots.{Slots}
 use Rattle.rdf_terms.specs.Askable.{is_iri_term, is_iri_or_literal, slot_allows, askable}
-use Rattle.rdf_terms.specs.Valid.{IsNotBlank}
+use Rattle.rdf_terms.proofs.Asked.{iri_not_blank, object_not_blank}
 use Rattle.template_fill.specs.Forms.{HasNoBlank, HasNoBlankSlot}
-
-iri-not-blank : (t : Term) → is_iri_term t ≡ true → IsNotBlank t
-iri-not-blank (Iri text) h = tt
-iri-not-blank (Blank label) h = cc
-iri-not-blank (Literal form kind) h = tt
-
-other-not-blank : (t : Term) → is_iri_or_literal t ≡ true → IsNotBlank t
-other-not-blank (Iri text) h = tt
-other-not-blank (Blank label) h = cc
-other-not-blank (Literal form kind) h = tt
 
 iri-slot : (s : Slot) → slot_allows is_iri_term s ≡ true → HasNoBlankSlot s
 iri-slot Any h = tt
-iri-slot (Fixed t) h = iri-not-blank t h
+iri-slot (Fixed t) h = iri_not_blank t h
 
 other-slot : (s : Slot) → slot_allows is_iri_or_literal s ≡ true → HasNoBlankSlot s
 other-slot Any h = tt
-other-slot (Fixed t) h = other-not-blank t h
+other-slot (Fixed t) h = object_not_blank t h
 
 pub asked-no-blank : (s : Slots) → askable s ≡ true → HasNoBlank s
 asked-no-blank s h =

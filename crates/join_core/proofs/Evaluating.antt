@@ -8,7 +8,7 @@ use Rattle.std.proofs.lemmas.Nat.{mul-le}
 use Rattle.std.proofs.lemmas.List.Elements.{All-nil, All-cons, All-head}
 use Rattle.std.proofs.lemmas.List.Sorted.{IsPermutation-sym, Contains-permutation}
 use Rattle.list_laws.proofs.Members.{at_head, in_flat_map}
-use Rattle.bgp_core.proofs.Orders.{flat_map-IsPermutation}
+use Rattle.list_laws.proofs.Orders.{flat_map_IsPermutation}
 use Rattle.tpf_base.specs.Addresses.{Address}
 use Rattle.join_core.specs.declared.evaluation.Ask.{Ask}
 use Rattle.join_core.specs.declared.evaluation.Answered.{Answered}
@@ -45,10 +45,10 @@ one-ask-home homes address others h = All-head (HasHome homes) address others h
 -- ---- accounts
 
 turned : (xs ys : List RoundData) → IsPermutation xs ys → IsPermutation (addresses_in xs) (addresses_in ys)
-turned xs ys h = flat_map-IsPermutation (λ (round : RoundData). round.addresses) xs ys h
+turned xs ys h = flat_map_IsPermutation (λ (round : RoundData). round.addresses) xs ys h
 
 turned-pairs : (xs ys : List (ℕ × RoundData)) → IsPermutation xs ys → IsPermutation (pairs_in xs) (pairs_in ys)
-turned-pairs xs ys h = flat_map-IsPermutation (λ (out : ℕ × RoundData). map (λ (address : Address). (out.0, address)) out.1.addresses) xs ys h
+turned-pairs xs ys h = flat_map_IsPermutation (λ (out : ℕ × RoundData). map (λ (address : Address). (out.0, address)) out.1.addresses) xs ys h
 
 pub on-ok : {A E : Type 0} (P : Type 0) (r : Result A E) → P → OnOk r P
 on-ok P (Ok x) p = p

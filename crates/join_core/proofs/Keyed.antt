@@ -6,17 +6,17 @@ use Rattle.std.specs.Map.{keys_of, values_of, lookup, set_value, remove_entry}
 use Rattle.std.specs.Set.{remove_key}
 use Rattle.std.specs.BTreeMap.{insert_entry}
 use Rattle.std.specs.BTreeSet.{insert_key}
-use Rattle.std.specs.Ordering.{nat_cmp, is_eq, match_ordering, ordering_reverse}
+use Rattle.std.specs.Ordering.{nat_cmp, is_eq, match_ordering}
 use Rattle.std.specs.declared.cmp.Ordering.{Ordering}
 use Rattle.std.specs.declared.cmp.Ordering.TheVariants.{Less, Equal, Greater}
 use Rattle.std.specs.Cmp.{nat_cmp_total}
 use Rattle.std.proofs.lemmas.Cmp.{ranked, tied_itself}
-use Rattle.std.proofs.lemmas.Bool.Decides.{nat_tests}
 use Rattle.std.proofs.lemmas.Map.Lookups.{exact_unsigned}
 use Rattle.std.proofs.lemmas.Map.Views.{tells_apart}
 use Rattle.std.proofs.lemmas.Map.Keys.{sorted_head, sorted_tail}
 use Rattle.std.proofs.lemmas.List.Sums.{sum_by-append}
 use Rattle.std.proofs.lemmas.List.Elements.{All-nil, All-cons, All-head, All-tail}
+use Rattle.list_laws.proofs.Tests.{is_greater}
 use Rattle.join_core.specs.Nodes.{NodeData}
 use Rattle.join_core.specs.Events.{is_idle, works}
 use Rattle.join_core.specs.Levels.{is_key, spot, marked}
@@ -38,12 +38,6 @@ key-not k x h = not-by k x (is_key k x) refl h
 
 pub less-is : (x y : ℕ) → nat_cmp x y ≡ Less → x < y
 less-is x y e = ranked x y Less (sym e)
-
-pub is-less : (x y : ℕ) → x < y → nat_cmp x y ≡ Less
-is-less x y h = grind (arith, nat_tests)
-
-pub is-greater : (x y : ℕ) → y < x → nat_cmp x y ≡ Greater
-is-greater x y h = nat_cmp_total.antisymm x y ∙ ap ordering_reverse (is-less y x h)
 
 key-equal : (k x : ℕ) → is_key k x ≡ true → nat_cmp k x ≡ Equal
 key-equal k x e = subst (λ y. nat_cmp k y ≡ Equal) (key-is k x e) (tied_itself nat_cmp_total k)
@@ -185,7 +179,7 @@ on-step : (test : NodeData → Bool) (k : ℕ) (x : ℕ × NodeData) (es : List 
 on-step test k x es v w true e f a h more = ap (λ (c : Bool). let l : List ℕ = cond c (x.0 ∷ marked test es) (marked test es) in l) h ∙ on-here test k x es (test x.1) e a
 on-step test k x es v w false e f a h more =
     let above : nat_cmp x.0 k ≡ Less = key-of (λ y. nat_cmp x.0 y ≡ Less) k es v f a in
-    on-later k x.0 (marked test es) (marked test (set_value (is_key k) es w)) (test x.1) (is-greater k x.0 (less-is x.0 k above)) (more f)
+    on-later k x.0 (marked test es) (marked test (set_value (is_key k) es w)) (test x.1) (is_greater k x.0 (less-is x.0 k above)) (more f)
 
 -- another node that passes
 pub marked-on : (test : NodeData → Bool) (k : ℕ) (es : List (ℕ × NodeData)) (v w : NodeData) → IsStrictlySortedBy nat_cmp (keys_of es) → lookup (is_key k) es ≡ Some v → test w ≡ true → marked test (set_value (is_key k) es w) ≡ insert_key nat_cmp (marked test es) k
@@ -218,12 +212,12 @@ marked-push test k v (x ∷ es) = ap (λ (l : List ℕ). cond (test x.1) (x.0 �
 
 pub insert-last : (k : ℕ) (ks : List ℕ) → AllByRecursion (λ y. y < k) ks → insert_key nat_cmp ks k ≡ ks ++ k ∷ []
 insert-last k [] a = refl
-insert-last k (x ∷ xs) a = insert-at k x xs Greater (is-greater k x a.0) ∙ ap (λ (l : List ℕ). x ∷ l) (insert-last k xs a.1)
+insert-last k (x ∷ xs) a = insert-at k x xs Greater (is_greater k x a.0) ∙ ap (λ (l : List ℕ). x ∷ l) (insert-last k xs a.1)
 
 pub entry-last : (k : ℕ) (v : NodeData) (es : List (ℕ × NodeData)) → AllByRecursion (λ y. y < k) (keys_of es) → insert_entry nat_cmp es k v ≡ es ++ (k, v) ∷ []
 entry-last k v [] a = refl
 entry-last k v (x ∷ es) a =
-    ap (λ (o : Ordering). match_ordering o ((k, v) ∷ x ∷ es) ((x.0, v) ∷ es) (x ∷ insert_entry nat_cmp es k v)) (is-greater k x.0 a.0) ∙ ap (λ (l : List (ℕ × NodeData)). x ∷ l) (entry-last k v es a.1)
+    ap (λ (o : Ordering). match_ordering o ((k, v) ∷ x ∷ es) ((x.0, v) ∷ es) (x ∷ insert_entry nat_cmp es k v)) (is_greater k x.0 a.0) ∙ ap (λ (l : List (ℕ × NodeData)). x ∷ l) (entry-last k v es a.1)
 
 pub removed-last : (k : ℕ) (ks : List ℕ) → AllByRecursion (λ y. y < k) ks → remove_key (is_key k) (ks ++ k ∷ []) ≡ ks
 removed-last k [] a = remove-on (is_key k) k [] (key-self k)

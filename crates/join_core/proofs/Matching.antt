@@ -3,6 +3,7 @@ use Rattle.std.proofs.Common.{ℕ, zero, suc, ◌≡◌, ◌⊎◌, inl, inr, Bo
 use Rattle.std.specs.List.{flat_map, list_any, AllByRecursion}
 use Rattle.std.proofs.lemmas.Bool.{and_from, or_cases, or_left, or_right}
 use Rattle.list_laws.proofs.Each.{all_so}
+use Rattle.list_laws.proofs.Tests.{all_three}
 use Rattle.rdf_terms.specs.declared.term.Term.{Term}
 use Rattle.rdf_terms.specs.declared.term.Triple.{Triple}
 use Rattle.rdf_terms.specs.declared.slots.Slot.{Slot}
@@ -14,9 +15,9 @@ use Rattle.bgp_core.specs.declared.pattern.Part.TheVariants.{Fixed, Name}
 use Rattle.bgp_core.specs.declared.pattern.Pattern.{Pattern}
 use Rattle.bgp_core.specs.Solutions.{Places, term_at, extension, rows_from}
 use Rattle.bgp_core.specs.Instances.{slot_of, slot, instance}
-use Rattle.bgp_core.proofs.Extending.{term-same}
 use Rattle.bgp_core.proofs.Fragments.{extension-matches}
 use Rattle.rdf_terms.specs.Selections.{Selection, matches_one}
+use Rattle.rdf_terms.proofs.Equality.{term_same}
 use Rattle.bgp_core.specs.Instances.{bound_slot, bound_places}
 use Rattle.join_core.specs.Blocks.{slot_eq, slots_eq, distinct_behind, distinct_slots, selection_for}
 use Rattle.join_core.specs.Worlds.{World, IsWorld}
@@ -26,9 +27,6 @@ three true true true h = (refl, refl, refl)
 three true true false h = absurd (cc)
 three true false c h = absurd (cc)
 three false b c h = absurd (cc)
-
-pub all_three : (a b c : Bool) → a ≡ true → b ≡ true → c ≡ true → (a && (b && c)) ≡ true
-all_three a b c x y z = rw (x, y, z) refl
 
 -- ---- what a row binds, and what the pattern fixes
 
@@ -60,7 +58,7 @@ slot-same : (a b : Slot) → slot_eq b a ≡ true → a ≡ b
 slot-same slots.Any slots.Any h = refl
 slot-same slots.Any (slots.Fixed u) h = absurd (cc)
 slot-same (slots.Fixed t) slots.Any h = absurd (cc)
-slot-same (slots.Fixed t) (slots.Fixed u) h = ap (λ (x : Term). let s : Slot = slots.Fixed x in s) (sym (term-same u t h))
+slot-same (slots.Fixed t) (slots.Fixed u) h = ap (λ (x : Term). let s : Slot = slots.Fixed x in s) (sym (term_same u t h))
 
 same-matches : (a b : Slots) (t : Triple) → slots_eq b a ≡ true → matches a t ≡ true → matches b t ≡ true
 same-matches a b t h m =

@@ -7,14 +7,14 @@ use Rattle.std.proofs.lemmas.List.Concat.{flat_map-append}
 use Rattle.std.proofs.lemmas.List.Sorted.{IsPermutation-trans}
 use Rattle.std.proofs.lemmas.Bool.{cases_lt}
 use Rattle.std.proofs.lemmas.Bool.Decides.{nat_tests}
+use Rattle.list_laws.proofs.Orders.{same, front as turned}
+use Rattle.list_laws.proofs.Tests.{all_numbers}
 use borrow.Author.Tests.{ltb-true}
 use Rattle.join_core.specs.Rounds.{RoundData}
 use Rattle.rdf_terms.specs.declared.term.Triple.{Triple}
 use Rattle.rdf_terms.specs.Selections.{Selection}
 use Rattle.bgp_core.specs.declared.pattern.Pattern.{Pattern}
 use Rattle.bgp_core.specs.Solutions.{Places, extension, rows_from, solutions}
-use Rattle.bgp_core.proofs.Patterns.{same}
-use Rattle.bgp_core.proofs.Orders.{front as turned}
 use Rattle.join_core.specs.declared.joint_page.JointPage.{JointPage}
 use Rattle.join_core.specs.declared.first.First.{First}
 use Rattle.join_core.specs.declared.first.First.TheVariants.{Out, Got}
@@ -29,12 +29,9 @@ use Rattle.join_core.proofs.Under.{any-first}
 one-more : (n k : ℕ) → k < n → n - k ≡ suc (n - suc k)
 one-more n k h = omega (arith, h)
 
-all-numbers : (n : ℕ) → n - 0 ≡ n
-all-numbers n = omega arith
-
 -- what stands on all pages
 pub items-first : (w : World) (s : Selection) → items_after w s 0 ≡ flat_map (w.items s) (numbers 0 (w.last s))
-items-first w s = ap (λ n. flat_map (w.items s) (numbers 0 n)) (all-numbers (w.last s))
+items-first w s = ap (λ n. flat_map (w.items s) (numbers 0 n)) (all_numbers (w.last s))
 
 -- what stands on the pages from one on is what stands on it, and on those behind it
 pub items-more : (w : World) (s : Selection) (k : ℕ) → k < w.last s → items_after w s k ≡ w.items s k ++ items_after w s (suc k)

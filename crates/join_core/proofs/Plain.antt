@@ -5,6 +5,7 @@ use Rattle.std.specs.Map.{lookup, values_of}
 use Rattle.std.proofs.lemmas.List.{get_or_default, get_or_append_left, get_or-set_same, set-set, take_at}
 use Rattle.std.proofs.lemmas.List.Elements.{All-nil}
 use Rattle.std.proofs.lemmas.Bool.Decides.{nat_tests}
+use Rattle.std.proofs.lemmas.Bool.{cond-true, cond-false}
 use Rattle.join_core.specs.Nodes.{NodeData}
 use Rattle.join_core.specs.Joins.{nodes, Stands, IsAt, level_at, settled, levels_after}
 use Rattle.join_core.specs.Levels.{Seed, seed_node, LevelData, level, nodes_of, plain, level_of, is_key, spot, found_at, index_at, made_levels, with_node_in}
@@ -74,14 +75,6 @@ seeds-append (s ∷ a) b = ap (λ (l : List NodeData). seed_node s ∷ l) (seeds
 pub more-nodes : (l : LevelData) (more : List Seed) → nodes_of (level l.started (l.unstarted ++ more)) ≡ nodes_of l ++ map seed_node more
 more-nodes l more = ap (λ (x : List NodeData). values_of l.started ++ x) (seeds-append l.unstarted more) ∙ sym (append_assoc (values_of l.started) (map seed_node l.unstarted) (map seed_node more))
 
-if-yes : {A : Type 0} (b : Bool) (x y : A) → b ≡ true → (if b then x else y) ≡ x
-if-yes true x y e = refl
-if-yes false x y e = cc
-
-if-no : {A : Type 0} (b : Bool) (x y : A) → b ≡ false → (if b then x else y) ≡ y
-if-no true x y e = cc
-if-no false x y e = refl
-
 is-below : (a b : ℕ) → a < b → nat_lt a b ≡ true
 is-below a b h = grind (arith, nat_tests)
 
@@ -104,7 +97,7 @@ made-above ls d i b l l' more after h at here e =
     let at' : l ≡ get_or ls d l = here ∙ get-set-other ls (d + 1) d b' l apart in
     let below : nodes_of b' ≡ level_at (plain ls) (d + 1) ++ map seed_node more = more-nodes b more ∙ ap (λ (x : List NodeData). x ++ map seed_node more) (sym (nodes-is ls (d + 1) b h at)) in
     let one : plain (set ls (d + 1) b') ≡ levels_after (plain ls) (d + 1) (map seed_node more) =
-    plain-set ls (d + 1) b' ∙ ap (λ (x : List NodeData). set (plain ls) (d + 1) x) below ∙ sym (if-yes (nat_lt (d + 1) (length (plain ls))) _ _ (is-below (d + 1) (length (plain ls)) (omega (arith, h, plain-long ls)))) in
+    plain-set ls (d + 1) b' ∙ ap (λ (x : List NodeData). set (plain ls) (d + 1) x) below ∙ sym (cond-true (nat_lt (d + 1) (length (plain ls))) _ _ (is-below (d + 1) (length (plain ls)) (omega (arith, h, plain-long ls)))) in
     plain-set (set ls (d + 1) b') d l' ∙ ap (λ (x : List (List NodeData)). set x d (nodes_of l')) one ∙ ap (λ (x : List NodeData). set (levels_after (plain ls) (d + 1) (map seed_node more)) d x) (e ∙ ap (λ (x : List NodeData). settled x i after) (sym (nodes-is ls d l deep at')))
 
 pub made-deepest : (ls : List LevelData) (d i : ℕ) (l l' : LevelData) (more : List Seed) (after : Option NodeData) → d + 1 ≡ length ls → l ≡ get_or (ls ++ level [] more ∷ []) d l → nodes_of l' ≡ settled (nodes_of l) i after
@@ -113,7 +106,7 @@ made-deepest ls d i l l' more after h here e =
     let deep : d < length ls = omega arith in
     let at : l ≡ get_or ls d l = here ∙ get_or_append_left ls (level [] more ∷ []) l d deep in
     let one : plain (ls ++ level [] more ∷ []) ≡ levels_after (plain ls) (d + 1) (map seed_node more) =
-    plain-push ls (level [] more) ∙ sym (if-no (nat_lt (d + 1) (length (plain ls))) _ _ (not-below (d + 1) (length (plain ls)) (h ∙ sym (plain-long ls)))) in
+    plain-push ls (level [] more) ∙ sym (cond-false (nat_lt (d + 1) (length (plain ls))) _ _ (not-below (d + 1) (length (plain ls)) (h ∙ sym (plain-long ls)))) in
     plain-set (ls ++ level [] more ∷ []) d l' ∙ ap (λ (x : List (List NodeData)). set x d (nodes_of l')) one ∙ ap (λ (x : List NodeData). set (levels_after (plain ls) (d + 1) (map seed_node more)) d x) (e ∙ ap (λ (x : List NodeData). settled x i after) (sym (nodes-is ls d l deep at)))
 
 -- what was added is taken back

@@ -6,8 +6,7 @@ use Rattle.std.proofs.lemmas.List.{set_split}
 use Rattle.std.proofs.lemmas.List.Concat.{flat_map-append}
 use Rattle.std.proofs.lemmas.List.Elements.{All-head, All-tail, All-append}
 use Rattle.std.proofs.lemmas.List.Sorted.{IsPermutation-trans, IsPermutation-sym, IsPermutation-append_left, IsPermutation-append_right, IsPermutation-remove, IsPermutation-middle, All-permutation}
-use Rattle.bgp_core.proofs.Patterns.{same}
-use Rattle.bgp_core.proofs.Orders.{flat_map-IsPermutation}
+use Rattle.list_laws.proofs.Orders.{same, flat_map_IsPermutation}
 use Rattle.join_core.specs.Nodes.{NodeData, node}
 use Rattle.join_core.specs.Joins.{nodes, Replaces}
 
@@ -17,11 +16,11 @@ set-IsPermutation xs i y h = subst (λ l. IsPermutation l (y ∷ remove xs i)) (
 -- what a multiset of the nodes was and is
 pub before-after : {A : Type 0} (f : NodeData → List A) (old new : List (List NodeData)) (node : NodeData) (made : List NodeData) (extra : List A) → Replaces old new node made → IsPermutation (f node) (extra ++ flat_map f made) → IsPermutation (flat_map f (nodes old)) (extra ++ flat_map f (nodes new))
 before-after f old new node made extra r h =
-    let one = flat_map-IsPermutation f (nodes old) (node ∷ r.others) r.before in
+    let one = flat_map_IsPermutation f (nodes old) (node ∷ r.others) r.before in
     let two = IsPermutation-append_left (flat_map f r.others) (f node) (extra ++ flat_map f made) h in
     let three = same ((extra ++ flat_map f made) ++ flat_map f r.others) (extra ++ (flat_map f made ++ flat_map f r.others)) (append_assoc extra (flat_map f made) (flat_map f r.others)) in
     let four = same (flat_map f made ++ flat_map f r.others) (flat_map f (made ++ r.others)) (sym (flat_map-append f made r.others)) in
-    let five = IsPermutation-sym _ _ (flat_map-IsPermutation f (nodes new) (made ++ r.others) r.after) in
+    let five = IsPermutation-sym _ _ (flat_map_IsPermutation f (nodes new) (made ++ r.others) r.after) in
     IsPermutation-trans _ _ _ one (IsPermutation-trans _ _ _ two (IsPermutation-trans _ _ _ three (IsPermutation-append_right extra _ _ (IsPermutation-trans _ _ _ four five))))
 
 pub all-after : (P : NodeData → Type 0) (old new : List (List NodeData)) (node : NodeData) (made : List NodeData) → Replaces old new node made → All P (nodes old) → All P made → All P (nodes new)
@@ -35,8 +34,8 @@ level-replaced levels d l new n made rest h e before after =
     let others = nodes (remove levels d) in
     record {
       others = rest ++ others;
-      before = IsPermutation-trans _ _ _ (flat_map-IsPermutation (λ x. x) levels (l ∷ remove levels d) (IsPermutation-remove levels d l h e)) (IsPermutation-append_left others l (n ∷ rest) before);
-      after = IsPermutation-trans _ _ _ (flat_map-IsPermutation (λ x. x) (set levels d new) (new ∷ remove levels d) (set-IsPermutation levels d new h)) (IsPermutation-trans _ _ _ (IsPermutation-append_left others new (made ++ rest) after) (same _ _ (append_assoc made rest others)));
+      before = IsPermutation-trans _ _ _ (flat_map_IsPermutation (λ x. x) levels (l ∷ remove levels d) (IsPermutation-remove levels d l h e)) (IsPermutation-append_left others l (n ∷ rest) before);
+      after = IsPermutation-trans _ _ _ (flat_map_IsPermutation (λ x. x) (set levels d new) (new ∷ remove levels d) (set-IsPermutation levels d new h)) (IsPermutation-trans _ _ _ (IsPermutation-append_left others new (made ++ rest) after) (same _ _ (append_assoc made rest others)));
     }
 
 -- the node at a place is written over

@@ -6,8 +6,7 @@ use Rattle.std.specs.List.Sorted.{IsPermutation}
 use Rattle.std.proofs.lemmas.List.{get_or_default, set_comm, set-append_left}
 use Rattle.std.proofs.lemmas.List.Concat.{flat_map-append}
 use Rattle.std.proofs.lemmas.List.Sorted.{IsPermutation-refl, IsPermutation-trans, IsPermutation-sym, IsPermutation-append_left, IsPermutation-append_right, IsPermutation-append_comm, IsPermutation-remove}
-use Rattle.bgp_core.proofs.Patterns.{same}
-use Rattle.bgp_core.proofs.Orders.{flat_map-IsPermutation}
+use Rattle.list_laws.proofs.Orders.{same, flat_map_IsPermutation}
 use borrow.Author.Tests.{ltb-true}
 use Rattle.join_core.specs.Nodes.{NodeData}
 use Rattle.join_core.specs.Joins.{nodes, Replaces, Stands, IsAt, settled, levels_after}
@@ -19,10 +18,10 @@ more-in levels d made true e h =
     let below : d < length levels = ltb-true d (length levels) e in
     let l = get_or levels d [] in
     let at : l ≡ get_or levels d l = get_or_default levels d [] l below in
-    let one = flat_map-IsPermutation (λ x. x) (set levels d (l ++ made)) ((l ++ made) ∷ remove levels d) (set-IsPermutation levels d (l ++ made) below) in
+    let one = flat_map_IsPermutation (λ x. x) (set levels d (l ++ made)) ((l ++ made) ∷ remove levels d) (set-IsPermutation levels d (l ++ made) below) in
     let two = IsPermutation-append_left (nodes (remove levels d)) (l ++ made) (made ++ l) (IsPermutation-append_comm l made) in
     let three = same ((made ++ l) ++ nodes (remove levels d)) (made ++ (l ++ nodes (remove levels d))) (append_assoc made l (nodes (remove levels d))) in
-    let four = IsPermutation-append_right made _ _ (IsPermutation-sym _ _ (flat_map-IsPermutation (λ x. x) levels (l ∷ remove levels d) (IsPermutation-remove levels d l below at))) in
+    let four = IsPermutation-append_right made _ _ (IsPermutation-sym _ _ (flat_map_IsPermutation (λ x. x) levels (l ∷ remove levels d) (IsPermutation-remove levels d l below at))) in
     IsPermutation-trans _ _ _ one (IsPermutation-trans _ _ _ two (IsPermutation-trans _ _ _ three four))
 more-in levels d made false e h =
     let one : nodes (levels ++ made ∷ []) ≡ nodes levels ++ (made ++ []) = flat_map-append (λ x. x) levels (made ∷ []) in

@@ -5,6 +5,8 @@ use Rattle.std.specs.List.Sorted.{IsPermutation}
 use Rattle.std.proofs.lemmas.List.Concat.{flat_map-append}
 use Rattle.std.proofs.lemmas.List.Elements.{All-nil, All-cons, All-append, All-filter, All-map, All-weaker}
 use Rattle.std.proofs.lemmas.List.Sorted.{IsPermutation-trans, All-permutation}
+use Rattle.list_laws.proofs.Orders.{same}
+use Rattle.list_laws.proofs.Each.{every_at}
 use Rattle.join_core.specs.Rounds.{RoundData}
 use Rattle.rdf_terms.specs.declared.term.Triple.{Triple}
 use Rattle.rdf_terms.specs.Slots.{matches}
@@ -13,7 +15,6 @@ use Rattle.rdf_terms.specs.Selections.{Selection, IsValidSelection}
 use Rattle.bgp_core.specs.declared.pattern.Pattern.{Pattern}
 use Rattle.bgp_core.specs.Solutions.{Places}
 use Rattle.bgp_core.specs.Queries.{IsValidPattern}
-use Rattle.bgp_core.proofs.Patterns.{same}
 use Rattle.join_core.specs.declared.joint_page.JointPage.{JointPage}
 use Rattle.join_core.specs.declared.first.First.{First}
 use Rattle.join_core.specs.declared.first.First.TheVariants.{Out, Got}
@@ -23,7 +24,7 @@ use Rattle.join_core.specs.Nodes.{NodeData, node, found, future, left, future_of
 use Rattle.join_core.specs.Nodes.Stage.{Asking, Walking}
 use Rattle.join_core.specs.Joins.{Turn}
 use Rattle.join_core.specs.Events.{made_of}
-use Rattle.join_core.proofs.Valid.{found-valid, askable-all-at, every-at, every-remove}
+use Rattle.join_core.proofs.Valid.{found-valid, askable-all-at, every-remove}
 use Rattle.join_core.proofs.Cuts.{are-cut}
 use Rattle.join_core.proofs.Asked.{selection-askable, selection-valid}
 use Rattle.join_core.proofs.Lists.{both-all}
@@ -168,7 +169,7 @@ held-turn w rows ps fs i p page holds h e is =
 -- what the block asks of one of its patterns is valid, and can be asked for
 pub asked-sound : (w : World) → IsWorld w → (rows : List Places) (ps : List Pattern) (fs : List First) (i : ℕ) (p : Pattern) → Holds w (node rows ps (Asking fs)) → i < length ps → p ≡ get_or ps i p → IsValidSelection (selection_for p rows) × (is_askable (selection_for p rows) ≡ true)
 asked-sound w is rows ps fs i p holds h e = (
-  selection-valid p rows (every-at IsValidPattern ps i p holds.patterns h e) holds.rows (omega (arith, holds.few, is.block.1)),
+  selection-valid p rows (every_at IsValidPattern ps i p holds.patterns h e) holds.rows (omega (arith, holds.few, is.block.1)),
   selection-askable p rows holds.asking.some_rows (askable-all-at rows ps i p holds.asking.askable h e),
 )
 

@@ -3,14 +3,14 @@ use Rattle.std.proofs.Common.{ℕ, suc, ◌≡◌, ◌<◌, Bool, true, false, �
 use Rattle.std.specs.List.{flat_map, remove, list_all}
 use Rattle.std.specs.List.Sorted.{IsPermutation}
 use Rattle.std.proofs.lemmas.List.Sorted.{IsPermutation-trans}
+use Rattle.list_laws.proofs.Orders.{same, flat_map_each, flat_map_IsPermutation}
 use Rattle.rdf_terms.specs.declared.term.Triple.{Triple}
 use Rattle.rdf_terms.specs.Askable.{askable}
 use Rattle.rdf_terms.specs.Selections.{all_of}
 use Rattle.bgp_core.specs.declared.pattern.Pattern.{Pattern}
 use Rattle.bgp_core.specs.Solutions.{Places, extension, rows_from, solutions}
 use Rattle.bgp_core.specs.Instances.{instance}
-use Rattle.bgp_core.proofs.Patterns.{same, flat_map-same, turned, solutions-first, flat_map-filter}
-use Rattle.bgp_core.proofs.Orders.{flat_map-each, flat_map-IsPermutation}
+use Rattle.bgp_core.proofs.Patterns.{flat_map-same, turned, solutions-first, flat_map-filter}
 use Rattle.join_core.specs.Blocks.{Cut, blocks, selection_for}
 use Rattle.join_core.specs.Worlds.{World, IsWorld, items_after}
 use Rattle.join_core.specs.Nodes.{found, solutions_under, all_askable, askable_rows, page_blocks}
@@ -38,10 +38,10 @@ any-first w is ps i p rows h e =
     let f = solutions w.triples (remove ps i) in
     let g = λ (row : Places) (t : Triple). rows_from (extension p row t) f in
     let made = λ (t : Triple). flat_map (λ row. rows_from (extension p row t) f) rows in
-    let one = flat_map-each (solutions w.triples ps) (λ row. flat_map (g row) w.triples) rows (λ row. solutions-first w.triples ps i p row h e) in
+    let one = flat_map_each (solutions w.triples ps) (λ row. flat_map (g row) w.triples) rows (λ row. solutions-first w.triples ps i p row h e) in
     let two = turned g rows w.triples in
     let three = flat_map-filter made (given w s) w.triples (λ t no. gives-none w is p rows t f no) in
-    let four = flat_map-IsPermutation made _ _ (is.fragments s) in
+    let four = flat_map_IsPermutation made _ _ (is.fragments s) in
     IsPermutation-trans _ _ _ one (IsPermutation-trans _ _ _ two (IsPermutation-trans _ _ _ (same _ _ (sym three)) (IsPermutation-trans _ _ _ four (same _ _ (sym (over-found f p rows (items_after w s 0)))))))
 
 -- ---- rows that cannot be asked for

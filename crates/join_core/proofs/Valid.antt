@@ -4,6 +4,7 @@ use Rattle.std.specs.List.{All, AllByRecursion, flat_map, list_all, remove}
 use Rattle.std.proofs.lemmas.List.{get_or_default}
 use Rattle.std.proofs.lemmas.Bool.{and_parts, cases_eq}
 use Rattle.std.proofs.lemmas.List.Elements.{All-nil, All-cons, All-weaker}
+use Rattle.list_laws.proofs.Each.{every_at}
 use Rattle.rdf_terms.specs.declared.term.Term.{Term}
 use Rattle.rdf_terms.specs.declared.term.Triple.{Triple}
 use Rattle.rdf_terms.specs.Askable.{askable}
@@ -98,11 +99,6 @@ askable-at row ps i p h l e = list_all-at (λ q. askable (instance q row)) ps i 
 pub askable-all-at : (rows : List Places) (ps : List Pattern) (i : ℕ) (p : Pattern) → All (λ row. all_askable row ps ≡ true) rows → i < length ps → p ≡ get_or ps i p → All (λ row. askable (instance p row) ≡ true) rows
 askable-all-at rows ps i p a l e = All-weaker (λ row. all_askable row ps ≡ true) (λ row. askable (instance p row) ≡ true) (λ row h. askable-at row ps i p h l e) rows a
 
-pub every-at : {X : Type 0} (P : X → Type 0) (xs : List X) (i : ℕ) (x : X) → AllByRecursion P xs → i < length xs → x ≡ get_or xs i x → P x
-every-at P [] i x h l e = absurd (omega arith)
-every-at P (y ∷ ys) zero x h l e = subst P (sym e) h.0
-every-at P (y ∷ ys) (suc i) x h l e = every-at P ys i x h.1 (omega arith) e
-
 pub every-remove : {X : Type 0} (P : X → Type 0) (xs : List X) (i : ℕ) → AllByRecursion P xs → AllByRecursion P (remove xs i)
 every-remove P [] zero h = h
 every-remove P [] (suc i) h = h
@@ -138,7 +134,7 @@ askable-no row ps i found r l is e f =
     f ∙ ap (λ b. b && all_askable row (drop (i + 1) ps)) (sym no) ∙ sym (askable-next row ps i found l is)
 
 pub found-every : (P : Pattern → Type 0) (ps : List Pattern) (i : ℕ) (found : Pattern) → AllByRecursion P ps → i < length ps → ((p : Pattern) → p ≡ get_or ps i p → found ≡ p) → P found
-found-every P ps i found h l is = let p = pattern-at ps i l in subst P (sym (is p.0 p.1)) (every-at P ps i p.0 h l p.1)
+found-every P ps i found h l is = let p = pattern-at ps i l in subst P (sym (is p.0 p.1)) (every_at P ps i p.0 h l p.1)
 
 pub places-remove : (ps : List Pattern) (rows : List Places) (i : ℕ) → HavePlacesFor ps rows → HavePlacesFor (remove ps i) rows
 places-remove ps rows i a = All-weaker (λ row. AllByRecursion (HasPlacesFor (length row)) ps) (λ row. AllByRecursion (HasPlacesFor (length row)) (remove ps i)) (λ row h. every-remove (HasPlacesFor (length row)) ps i h) rows a

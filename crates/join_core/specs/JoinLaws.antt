@@ -9,10 +9,10 @@ use Rattle.std.proofs.lemmas.Bool.{and_parts}
 use Rattle.std.proofs.lemmas.Bool.Decides.{nat_tests}
 use Rattle.std.proofs.lemmas.List.Sums.{sum_by-cons}
 use Rattle.std.proofs.lemmas.List.Elements.{All-nil, All-head, All-tail, All-append, All-weaker}
+use Rattle.list_laws.proofs.Orders.{flat_map_IsPermutation}
 use Rattle.tpf_base.specs.Addresses.{Address}
 use Rattle.bgp_core.specs.declared.pattern.Pattern.{Pattern}
 use Rattle.bgp_core.specs.Solutions.{Places}
-use Rattle.bgp_core.proofs.Orders.{flat_map-IsPermutation}
 use Rattle.join_core.specs.declared.first.First.{First}
 use Rattle.join_core.specs.declared.first.First.TheVariants.{Out, Got}
 use Rattle.join_core.specs.Rounds.{RoundData, addresses_in}
@@ -61,7 +61,7 @@ tickets-are-below terms j k = k.tickets
 -- ---- before the first event
 
 pub begun-left : (w : World) (patterns : List Pattern) (row : Places) (j : JoinData) → Begins w patterns row j → IsPermutation (plan w patterns row) (account_of w j).left
-begun-left w patterns row j b = flat_map-IsPermutation (λ (round : RoundData). round.addresses) (round_plan w patterns (row ∷ [])) (left_over w j) b.left
+begun-left w patterns row j b = flat_map_IsPermutation (λ (round : RoundData). round.addresses) (round_plan w patterns (row ∷ [])) (left_over w j) b.left
 
 pub begun-out : (w : World) (patterns : List Pattern) (row : Places) (j : JoinData) → Begins w patterns row j → (account_of w j).out ≡ []
 begun-out w patterns row j b = ap (λ (l : List (ℕ × RoundData)). pairs_in l) b.out
