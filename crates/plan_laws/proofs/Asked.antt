@@ -10,6 +10,7 @@ use Rattle.std.proofs.lemmas.List.{length-map}
 use Rattle.form_urlencoded.specs.Form.{split_pair, onto_first, split, is_nonempty, raw_pairs, plus_to_space, decode, ampersand, equals_sign}
 use Rattle.percent_encoding.specs.Percent.{is_escape, percent_decode}
 use Rattle.list_laws.proofs.Options.{some_same}
+use Rattle.list_laws.proofs.Bytes.{same_is}
 use Rattle.rdf_terms.specs.Iri.{is_iri}
 use Rattle.rdf_terms.specs.Tag.{is_tag, lower}
 use Rattle.rdf_terms.specs.Kinds.{typed_kind}
@@ -31,7 +32,6 @@ use Rattle.template_fill.specs.declared.fault.ValueFault.{ValueFault}
 use Rattle.template_fill.specs.declared.fault.ValueFault.TheVariants as faults
 use Rattle.template_fill.specs.Answers.{Question, form_text, parameters, values_under, one_value, slot_under, page_number, rows_under, asked_by, question_of, AsksFor}
 use Rattle.template_fill.proofs.Reading.{bind-inv, when-inv}
-use Rattle.triple_table.proofs.Bytes.{bytes_eq_same}
 use Rattle.plan_laws.proofs.Lengths.{IsShortSlot, IsShort, places_short, row_short, selection_long}
 
 -- ---- texts
@@ -239,7 +239,7 @@ place_short name pairs slot e =
 
 -- no value stands under two of the names
 apart : (key a b : List ℕ) → bytes_eq a b ≡ false → bytes_eq key a ≡ true → bytes_eq key b ≡ false
-apart key a b e same = subst (λ (k : List ℕ). bytes_eq k b ≡ false) (sym (bytes_eq_same key a same)) e
+apart key a b e same = subst (λ (k : List ℕ). bytes_eq k b ≡ false) (sym (same_is key a same)) e
 
 abbrev subject_name : List ℕ
 subject_name = codes "subject"

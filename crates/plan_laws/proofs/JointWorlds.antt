@@ -9,20 +9,19 @@ use Rattle.std.proofs.lemmas.Bool.Decides.{nat_tests}
 use Rattle.std.proofs.lemmas.List.Elements.{All-nil, All-cons, All-head, All-tail, All-contains, Contains-append_left, Contains-append_right, Contains-append_cases}
 use Rattle.std.proofs.lemmas.List.Kept.{IsStrictlySortedBy-filter}
 use Rattle.std.proofs.lemmas.List.Sorted.{IsPermutation-sym, Contains-permutation}
-use Rattle.list_laws.proofs.Ascending.{is_equal}
 use Rattle.list_laws.proofs.Members.{at_head, in_tail, head_or_tail, none_in, in_filter, from_filter, in_flat_map, from_flat_map, Contains-map, from_map, any_of, some_of}
 use Rattle.list_laws.proofs.Told.{one_list}
 use Rattle.rdf_terms.specs.declared.term.Triple.{Triple}
-use Rattle.rdf_terms.specs.declared.slots.Slot.TheVariants.{Any}
 use Rattle.rdf_terms.specs.declared.slots.Slots.{Slots}
-use Rattle.rdf_terms.specs.Fragments.{IsFragment, fragment, sorted}
+use Rattle.rdf_terms.specs.Fragments.{sorted}
 use Rattle.rdf_terms.specs.Order.{triple_order}
 use Rattle.rdf_terms.specs.OrderLaws.{triple_total, triple_equal, triple_ties}
 use Rattle.rdf_terms.specs.Same.{triple_eq}
 use Rattle.rdf_terms.specs.Selections.{Selection, all_of}
 use Rattle.rdf_terms.specs.Slots.{matches}
 use Rattle.rdf_terms.specs.Valid.{IsValidTriple}
-use Rattle.rdf_terms.proofs.FragmentLaws.{fragment_is}
+use Rattle.rdf_terms.proofs.Selected.{sorted_is, ascends}
+use Rattle.rdf_terms.proofs.Equality.{eq_same}
 use Rattle.bgp_core.specs.Solutions.{distinct_after}
 use Rattle.join_core.specs.Worlds.{World, IsWorld, numbers, items_after}
 use Rattle.plan_laws.specs.JointWorlds.{WorldsAreJoined, union, joint_count, joint_last, items_at, all_items, taken_before, joint_items, holds, joint_keeps, several_world}
@@ -31,29 +30,11 @@ use Rattle.plan_laws.proofs.Servers.{Apart, AllApart, sorted-turned}
 
 -- ---- triples in their order, each once
 
-no-slots : Slots
-no-slots = record { subject = Any; predicate = Any; object = Any }
-
-every : (xs : List Triple) → filter (matches no-slots) xs ≡ xs
-unfolding no-slots
-every [] = refl
-every (x ∷ xs) = ap (λ l. x ∷ l) (every xs)
-
--- the list in its order is a fragment of which no slot is fixed
-sorted-is : (xs : List Triple) → IsFragment xs no-slots (sorted triple_order xs)
-unfolding no-slots fragment
-sorted-is xs = subst (λ (l : List Triple). IsFragment xs no-slots (sorted triple_order l)) (every xs) (fragment_is xs no-slots)
-
-pub ascends : (xs : List Triple) → IsStrictlySortedBy triple_order (sorted triple_order xs)
-unfolding no-slots
-ascends xs = (sorted-is xs).ascending
-
 pub from-sorted : (xs : List Triple) (t : Triple) → Contains (sorted triple_order xs) t → Contains xs t
-from-sorted xs t h = (((sorted-is xs).members t).0 h).0
+from-sorted xs t h = (((sorted_is xs).members t).0 h).0
 
 pub in-sorted : (xs : List Triple) (t : Triple) → Contains xs t → Contains (sorted triple_order xs) t
-unfolding no-slots
-in-sorted xs t h = ((sorted-is xs).members t).1 (h, record { subject = tt; predicate = tt; object = tt })
+in-sorted xs t h = ((sorted_is xs).members t).1 (h, record { subject = tt; predicate = tt; object = tt })
 
 -- data in their order are the union of themselves alone
 pub one-union : (set : List Triple) → IsStrictlySortedBy triple_order set → union (set ∷ []) ≡ set
@@ -67,9 +48,6 @@ one-union set up =
 abbrev Stands : List Triple → Triple → Bool
 Stands before t = list_any (λ s. triple_eq s t) before
 
-pub eq-same : (s t : Triple) → triple_eq s t ≡ true → s ≡ t
-eq-same s t e = (triple_equal s t).0 (is_equal (triple_order s t) (sym (triple_ties s t) ∙ e))
-
 eq-itself : (t : Triple) → triple_eq t t ≡ true
 eq-itself t = triple_ties t t ∙ ap is_eq ((triple_equal t t).1 refl)
 
@@ -77,7 +55,7 @@ in-stands : (before : List Triple) (t : Triple) → Contains before t → Stands
 in-stands before t h = any_of (λ s. triple_eq s t) before t h (eq-itself t)
 
 stands-in : (before : List Triple) (t : Triple) → Stands before t ≡ true → Contains before t
-stands-in before t h = let r = some_of (λ s. triple_eq s t) before h in subst (λ (x : Triple). Contains before x) (eq-same r.0 t r.2) r.1
+stands-in before t h = let r = some_of (λ s. triple_eq s t) before h in subst (λ (x : Triple). Contains before x) (eq_same r.0 t r.2) r.1
 
 -- those that are new were among all
 pub from-after : (before ts : List Triple) (t : Triple) → Contains (distinct_after before ts) t → Contains ts t

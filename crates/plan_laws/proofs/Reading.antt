@@ -1,8 +1,6 @@
 -- What a server within the limits answers is read as pages.
 use Rattle.std.proofs.Common.{ℕ, suc, ◌≡◌, ◌+◌, ◌-◌, ◌/◌, ◌<◌, ◌≤◌, ◌^◌, ◌==◌, max, nat_lt, Bool, true, false, List, [], ◌∷◌, ◌++◌, length, replicate, Some, None, codes, if◌then◌else◌, refl, sym, ap, subst, ◌∙◌, arith, length-append, append-nil, div-le_self}
-use Rattle.std.specs.List.{AllByRecursion, Contains, filter}
-use Rattle.std.specs.declared.cmp.Ordering.{Ordering}
-use Rattle.std.specs.declared.cmp.Ordering.TheVariants.{Less, Equal, Greater}
+use Rattle.std.specs.List.{AllByRecursion, Contains}
 use Rattle.list_laws.proofs.Members.{at_head, in_tail, all_from, in_flat_map}
 use Rattle.list_laws.proofs.Told.{all_in}
 use Rattle.tpf_base.specs.Addresses.{Address, IsAddress, address_text, authority_of, target_of, query_text}
@@ -16,10 +14,10 @@ use Rattle.rdf_terms.specs.declared.slots.Slots.{Slots}
 use Rattle.rdf_terms.specs.Askable.{AskableAreKept}
 use Rattle.rdf_terms.specs.Canon.{canonical_term}
 use Rattle.rdf_terms.specs.declared.limits.TheConstants.{LONGEST_TERM, MOST_ROWS}
-use Rattle.rdf_terms.specs.Fragments.{put_by, put, sorted, fragment, last_page_of}
-use Rattle.rdf_terms.specs.Selections.{Selection, IsKeptSelection, all_of, matches_one, restricted, selected, selected_last, selected_page}
-use Rattle.rdf_terms.specs.Slots.{matches, order_of}
+use Rattle.rdf_terms.specs.Fragments.{last_page_of}
+use Rattle.rdf_terms.specs.Selections.{Selection, IsKeptSelection, all_of, selected, selected_last, selected_page}
 use Rattle.rdf_terms.specs.Valid.{IsValidTriple}
+use Rattle.rdf_terms.proofs.Selected.{selected_length}
 use Rattle.triple_table.specs.Served.{terms_in, terms_of}
 use Rattle.template_fill.specs.declared.limits.TheConstants.{LONGEST_START}
 use Rattle.template_fill.specs.ReadAddress.{path_of, query_of, with_target}
@@ -52,39 +50,7 @@ use Rattle.plan_laws.proofs.Selections.{IsGood, IsGoodSelection, good_for, good_
 use Rattle.plan_laws.proofs.Plans.{IsPlanned, low_last, addresses_planned, items_all, page_planned}
 use Rattle.plan_laws.proofs.Asked.{target_short}
 
--- ---- lengths of lists
-
-put_length : (order : Triple → Triple → Ordering) (x : Triple) (ys : List Triple) → length (put order x ys) ≤ suc (length ys)
-put_length order x [] = omega arith
-put_length order x (y ∷ ys) = by (order x y) (put_length order x ys)
-  where
-    by : (o : Ordering) → length (put order x ys) ≤ suc (length ys) → length (put_by o x y ys (put order x ys)) ≤ suc (suc (length ys))
-    by Less h = omega arith
-    by Equal h = omega arith
-    by Greater h = omega (arith, h)
-
-sorted_length : (order : Triple → Triple → Ordering) (xs : List Triple) → length (sorted order xs) ≤ length xs
-sorted_length order [] = omega arith
-sorted_length order (x ∷ xs) = omega (arith, put_length order x (sorted order xs), sorted_length order xs)
-
-filter_length : (test : Triple → Bool) (xs : List Triple) → length (filter test xs) ≤ length xs
-filter_length test [] = omega arith
-filter_length test (x ∷ xs) = by (test x) (filter_length test xs)
-  where
-    by : (t : Bool) → length (filter test xs) ≤ length xs → length (if t then x ∷ filter test xs else filter test xs) ≤ suc (length xs)
-    by true h = omega (arith, h)
-    by false h = omega (arith, h)
-
-pub fragment_length : (triples : List Triple) (slots : Slots) → length (fragment triples slots) ≤ length triples
-unfolding fragment
-fragment_length triples slots = omega (arith, sorted_length (order_of slots) (filter (matches slots) triples), filter_length (matches slots) triples)
-
-restricted_length : (rows : List Slots) (items : List Triple) → length (restricted rows items) ≤ length items
-restricted_length [] items = omega arith
-restricted_length (row ∷ rows) items = filter_length (matches_one (row ∷ rows)) items
-
-pub selected_length : (triples : List Triple) (s : Selection) → length (selected triples s) ≤ length triples
-selected_length triples s = omega (arith, fragment_length triples s.slots, restricted_length s.rows (fragment triples s.slots))
+-- ---- how many pages
 
 pages_few : (count size : ℕ) → size ≤ 1000 → count ≤ 9999999999999999999 → last_page_of count size ≤ 10000000000000000999
 pages_few count size small few = within ((count + (size - 1)) / size) (div-le_self (count + (size - 1)) size)

@@ -12,6 +12,7 @@ use Rattle.std.specs.declared.cmp.Ordering.TheVariants.{Less, Equal, Greater}
 use Rattle.std.proofs.lemmas.Bool.Decides.{nat_tests}
 use Rattle.std.proofs.lemmas.List.Elements.{All-nil, All-cons, All-head, All-tail, filter_agree}
 use Rattle.std.proofs.lemmas.List.Sorted.{IsPermutation-refl, IsPermutation-trans, IsPermutation-cons, IsPermutation-append_left, IsPermutation-append_comm, All-permutation, length_permutation}
+use Rattle.list_laws.proofs.Orders.{filter_turned}
 use Rattle.tpf_base.specs.Addresses.{Address, IsAddress}
 use Rattle.rdf_terms.specs.declared.term.Triple.{Triple}
 use Rattle.rdf_terms.specs.declared.slots.Slots.{Slots}
@@ -32,7 +33,6 @@ use Rattle.template_fill.specs.Templates.{Template, expansion}
 use Rattle.template_fill.specs.Metadata.{Config}
 use Rattle.template_fill.specs.Configurations.{IsValidDataSet, VersionsAreValid}
 use Rattle.template_fill.specs.Bodies.{version_of}
-use Rattle.bgp_core.proofs.Orders.{flat_map-IsPermutation}
 use Rattle.control_laws.specs.Law.{IsServerForm, IsPageOf, IsNextOf, NothingElseIsRead}
 use Rattle.join_core.proofs.Pages.{items-first}
 use Rattle.join_core.specs.Rounds.{RoundData, round_of_one}
@@ -100,18 +100,6 @@ all-from P (x ∷ xs) a = All-cons P x xs a.0 (all-from P xs a.1)
 
 -- ---- what is selected holds the matching triples that are kept
 
-kept-one : {X : Type 0} (x : X) (ys : List X) (b : Bool) → (if b then x ∷ ys else ys) ≡ ((if b then x ∷ [] else []) ++ ys)
-kept-one x ys true = refl
-kept-one x ys false = refl
-
-filter-is : {X : Type 0} (q : X → Bool) (xs : List X) → filter q xs ≡ flat_map (λ x. if q x then x ∷ [] else []) xs
-filter-is q [] = refl
-filter-is q (x ∷ xs) = kept-one x (filter q xs) (q x) ∙ ap (λ l. (if q x then x ∷ [] else []) ++ l) (filter-is q xs)
-
-filter-turned : {X : Type 0} (q : X → Bool) (xs ys : List X) → IsPermutation xs ys → IsPermutation (filter q xs) (filter q ys)
-filter-turned q xs ys p =
-    subst (λ l. IsPermutation l (filter q ys)) (sym (filter-is q xs)) (subst (λ l. IsPermutation (flat_map (λ x. if q x then x ∷ [] else []) xs) l) (sym (filter-is q ys)) (flat_map-IsPermutation (λ x. if q x then x ∷ [] else []) xs ys p))
-
 -- two tests at once
 twice-step : {X : Type 0} (q : X → Bool) (x : X) (ys : List X) (a b : Bool) → q x ≡ b → (if a && b then x ∷ filter q ys else filter q ys) ≡ filter q (if a then x ∷ ys else ys)
 twice-step q x ys true b e = sym (ap (λ (c : Bool). if c then x ∷ filter q ys else filter q ys) e)
@@ -133,7 +121,7 @@ by-rows : (triples : List Triple) (slots : Slots) (rows : List Slots) → IsPerm
 by-rows triples slots [] p = all-turned triples slots p
 by-rows triples slots (row ∷ rows) p =
     subst (λ (l : List Triple). IsPermutation l (filter (matches_one (row ∷ rows)) (fragment triples slots))) (sym (twice (matches slots) (matches_one (row ∷ rows)) triples))
-    (filter-turned (matches_one (row ∷ rows)) (filter (matches slots) triples) (fragment triples slots) p)
+    (filter_turned (matches_one (row ∷ rows)) (filter (matches slots) triples) (fragment triples slots) p)
 
 kept-turned : (triples : List Triple) (rows : Bool) (s : Selection) → IsPermutation (filter (matches s.slots) triples) (fragment triples s.slots) → IsPermutation (filter (λ t. matches s.slots t && kept_by rows s.rows t) triples) (selected triples (read_as rows s))
 kept-turned triples false s p = all-turned triples s.slots p
