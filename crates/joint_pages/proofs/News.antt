@@ -6,24 +6,21 @@ use Rattle.std.specs.Ordering.{ordering_reverse}
 use Rattle.std.specs.declared.cmp.Ordering.{Ordering}
 use Rattle.std.specs.declared.cmp.Ordering.TheVariants.{Less, Equal, Greater}
 use Rattle.std.proofs.lemmas.List.Elements.{Contains-append_right}
-use Rattle.list_laws.proofs.Ascending.{is_equal}
 use Rattle.list_laws.proofs.Lists.{any_snoc}
 use Rattle.list_laws.proofs.Members.{at_head}
 use Rattle.list_laws.proofs.Told.{all_in}
 use Rattle.rdf_terms.specs.declared.term.Triple.{Triple}
 use Rattle.rdf_terms.specs.Fragments.{put_by, put, sorted}
 use Rattle.rdf_terms.specs.Order.{triple_order}
-use Rattle.rdf_terms.specs.OrderLaws.{triple_total, triple_equal, triple_ties}
+use Rattle.rdf_terms.specs.OrderLaws.{triple_total, triple_equal}
 use Rattle.rdf_terms.specs.Same.{triple_eq}
+use Rattle.rdf_terms.proofs.Equality.{eq_same}
 use Rattle.bgp_core.specs.Solutions.{unless_before, distinct_after}
 use Rattle.joint_pages.specs.Joined.{added}
 
 -- the triple stands among these
 abbrev pub Stands : List Triple → Triple → Bool
 Stands set u = list_any (λ s. triple_eq s u) set
-
-eq-same : (s t : Triple) → triple_eq s t ≡ true → s ≡ t
-eq-same s t e = (triple_equal s t).0 (is_equal (triple_order s t) (sym (triple_ties s t) ∙ e))
 
 -- ---- what stands in a set with one more
 
@@ -53,7 +50,7 @@ any-sorted (x ∷ xs) u = any-put x u (sorted triple_order xs) ∙ ap (λ (b : B
 absorbed : (set : List Triple) (t u : Triple) → Stands set t ≡ true → (triple_eq t u || Stands set u) ≡ Stands set u
 absorbed set t u h = by (triple_eq t u) refl where
   by : (b : Bool) → triple_eq t u ≡ b → (b || Stands set u) ≡ Stands set u
-  by true e = sym (subst (λ (x : Triple). Stands set x ≡ true) (eq-same t u e) h)
+  by true e = sym (subst (λ (x : Triple). Stands set x ≡ true) (eq_same t u e) h)
   by false e = refl
 
 -- what stands in the set with a triple put in, unless it stands there, stands in the list with it behind

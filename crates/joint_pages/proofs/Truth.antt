@@ -1,22 +1,18 @@
 -- Of pages that are true, the joint page is that of the servers together.
-use Rattle.std.proofs.Common.{ℕ, suc, ◌≡◌, ◌-◌, ◌<◌, ◌≤◌, Bool, true, false, ◌&&◌, if◌then◌else◌, nat_lt, List, [], ◌∷◌, ◌++◌, length, map, Some, None, refl, ap, sym, subst, ◌∙◌, append-nil, arith, Ok, Err}
+use Rattle.std.proofs.Common.{ℕ, suc, ◌≡◌, ◌-◌, ◌<◌, ◌≤◌, Bool, true, false, if◌then◌else◌, nat_lt, List, [], ◌∷◌, ◌++◌, length, map, Some, None, refl, ap, sym, subst, ◌∙◌, append-nil, arith, Ok, Err}
 use Rattle.std.specs.Prelude.{◌==◌, Result, IfOk}
-use Rattle.std.specs.List.{filter, flat_map, Contains}
-use Rattle.std.specs.List.Sorted.{IsStrictlySortedBy}
-use Rattle.std.proofs.lemmas.Bool.{and_parts}
+use Rattle.std.specs.List.{flat_map, Contains}
 use Rattle.std.proofs.lemmas.Bool.Decides.{nat_tests}
 use Rattle.std.proofs.lemmas.List.Elements.{All-head}
 use Rattle.std.proofs.lemmas.List.Sorted.{IsPermutation-middle, IsPermutation-sym, Contains-permutation}
 use Rattle.list_laws.proofs.Told.{one_list}
+use Rattle.list_laws.proofs.Lists.{none_wanted}
 use Rattle.rdf_terms.specs.declared.term.Triple.{Triple}
-use Rattle.rdf_terms.specs.declared.slots.Slot.TheVariants.{Any}
-use Rattle.rdf_terms.specs.declared.slots.Slots.{Slots}
-use Rattle.rdf_terms.specs.Fragments.{IsFragment, fragment, sorted}
+use Rattle.rdf_terms.specs.Fragments.{sorted}
 use Rattle.rdf_terms.specs.Selections.{Selection}
-use Rattle.rdf_terms.specs.Slots.{matches}
 use Rattle.rdf_terms.specs.Order.{triple_order}
 use Rattle.rdf_terms.specs.OrderLaws.{triple_total}
-use Rattle.rdf_terms.proofs.FragmentLaws.{fragment_is}
+use Rattle.rdf_terms.proofs.Selected.{ascends}
 use Rattle.bgp_core.specs.Solutions.{distinct_after}
 use Rattle.tpf_base.specs.Addresses.{Address}
 use Rattle.fragment_page.specs.declared.page.Page.{Page}
@@ -34,19 +30,6 @@ use Rattle.joint_pages.proofs.News.{Stands, any-sorted, distinct-same}
 use Rattle.joint_pages.proofs.Matching.{AreJoint, Matched, parts-matched, pages-joint, none-far, some-near}
 
 -- ---- sets in their order
-
-no-slots : Slots
-no-slots = record { subject = Any; predicate = Any; object = Any }
-
-every : (xs : List Triple) → filter (matches no-slots) xs ≡ xs
-unfolding no-slots
-every [] = refl
-every (x ∷ xs) = ap (λ l. x ∷ l) (every xs)
-
--- the list in its order is a fragment of which no slot is fixed
-ascends : (xs : List Triple) → IsStrictlySortedBy triple_order (sorted triple_order xs)
-unfolding no-slots fragment
-ascends xs = (subst (λ (l : List Triple). IsFragment xs no-slots (sorted triple_order l)) (every xs) (fragment_is xs no-slots)).ascending
 
 -- of lists with the same triples
 same-sorted : (xs ys : List Triple) → ((t : Triple) → Contains xs t → Contains ys t) → ((t : Triple) → Contains ys t → Contains xs t) → sorted triple_order xs ≡ sorted triple_order ys
@@ -95,19 +78,13 @@ module _ (worlds : List World) (s : Selection) (k : ℕ) (taken : List Triple) (
 
 -- ---- the round
 
-wanted-none : (wanted : List Address) (b : Bool) → ((length wanted == 0) && b) ≡ true → (wanted ≡ []) × (b ≡ true)
-wanted-none [] b e = (refl, e)
-wanted-none (a ∷ wanted) b e = absurd (no-suc (length wanted) (and_parts (suc (length wanted) == 0) b e).0) where
-  no-suc : (n : ℕ) → (suc n == 0) ≡ true → ⊥
-  no-suc n h = grind (arith, nat_tests)
-
 all-asked : (parts : List PartData) (wanted : List Address) → wanted ≡ [] → map (λ p. p.address) parts ++ wanted ≡ map (λ p. p.address) parts
 all-asked parts wanted e = ap (λ (l : List Address). map (λ (p : PartData). p.address) parts ++ l) e ∙ append-nil (map (λ (p : PartData). p.address) parts)
 
 several-true : (worlds : List World) (g : GatheringData) → AreServers worlds → HoldsTrue worlds g → is_whole g ≡ true → IsRoundPageAt (several_world worlds) (round_of g) (joined g.taken (pages_in g.parts))
 several-true worlds g servers told whole = record {
   stands = λ s k valid asked is h.
-      let ends = wanted-none g.wanted (are_there g.parts) whole in
+      let ends = none_wanted g.wanted (are_there g.parts) whole in
       let one : suc k - 1 ≡ k = omega arith in
       let addresses : map (λ p. p.address) g.parts ≡ flat_map (addresses_at s (suc k)) worlds = sym (all-asked g.parts g.wanted ends.0) ∙ ap (λ (r : RoundData). r.addresses) is in
       let before : g.taken ≡ sorted triple_order (taken_before worlds s k) = ap (λ (r : RoundData). r.taken) is ∙ ap (λ (n : ℕ). sorted triple_order (taken_before worlds s n)) one in
@@ -123,7 +100,7 @@ only-page w s k address taken (page ∷ pages) after m = after page (All-head (�
 alone-true : (w : World) (g : GatheringData) → IsOneServer w → HoldsTrue (w ∷ []) g → is_whole g ≡ true → IsRoundPageAt w (round_of g) (joined_as true g.taken (pages_in g.parts))
 alone-true w g one told whole = record {
   stands = λ s k valid asked is h.
-      let ends = wanted-none g.wanted (are_there g.parts) whole in
+      let ends = none_wanted g.wanted (are_there g.parts) whole in
       let a = one s (suc k) in
       let addresses : map (λ p. p.address) g.parts ≡ a.0 ∷ [] = sym (all-asked g.parts g.wanted ends.0) ∙ ap (λ (r : RoundData). r.addresses) (is ∙ a.1) in
       only-page w s k a.0 g.taken (pages_in g.parts) (λ page at. at.stands s k valid asked (sym a.1) h)
