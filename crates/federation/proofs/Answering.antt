@@ -6,10 +6,9 @@ use Rattle.std.specs.List.Sorted.{IsPermutation}
 use Rattle.std.proofs.lemmas.List.Elements.{All-tail, All-weaker}
 use Rattle.std.proofs.lemmas.List.Sorted.{IsPermutation-refl, IsPermutation-sym, IsPermutation-trans, IsPermutation-cons, IsPermutation-append, IsPermutation-append_left, IsPermutation-map, All-permutation, Contains-permutation}
 use Rattle.list_laws.proofs.Members.{at_head, in_tail}
+use Rattle.list_laws.proofs.Orders.{same, flat_map_IsPermutation}
 use Rattle.tpf_base.specs.Addresses.{Address}
 use Rattle.fragment_page.specs.declared.page.Page.{Page}
-use Rattle.bgp_core.proofs.Patterns.{same}
-use Rattle.bgp_core.proofs.Orders.{flat_map-IsPermutation}
 use Rattle.join_core.specs.declared.evaluation.Answered.{Answered}
 use Rattle.join_core.specs.declared.evaluation.Answered.TheVariants.{Taken, Stranger}
 use Rattle.join_core.specs.declared.joint_page.JointPage.{JointPage}
@@ -210,7 +209,7 @@ module _ (old : FederationData) (j : JoinData) (changed : List GatheringData) (a
       record {
         owed = done-owed w old.join j after.number answered done;
         left = IsPermutation-append (all_wanted old.rounds) (all_wanted changed) (addresses_in (left_over w old.join)) (addresses_in (left_over w j)) last-wanted
-            (flat_map-IsPermutation (λ (r : RoundData). r.addresses) (left_over w old.join) (left_over w j) (done-left w old.join j after.number answered done));
+            (flat_map_IsPermutation (λ (r : RoundData). r.addresses) (left_over w old.join) (left_over w j) (done-left w old.join j after.number answered done));
         address = h.among.takes.part.address;
         out = last-outs;
       }

@@ -1,5 +1,5 @@
 -- A federation that hands out an address.
-use Rattle.std.proofs.Common.{ℕ, ◌≡◌, ◌+◌, ◌*◌, ◌<◌, ◌≤◌, inl, inr, Bool, true, false, ◌&&◌, List, [], ◌∷◌, ◌++◌, length, Option, Some, None, Ok, Err, refl, ap, ap₂, sym, subst, ◌∙◌, arith, append_assoc, ⊎_elim}
+use Rattle.std.proofs.Common.{ℕ, ◌≡◌, ◌+◌, ◌*◌, ◌<◌, ◌≤◌, inl, inr, Bool, true, ◌&&◌, List, [], ◌∷◌, ◌++◌, length, Option, Some, None, Ok, Err, refl, ap, ap₂, sym, subst, ◌∙◌, arith, append_assoc, ⊎_elim}
 use Rattle.std.specs.Prelude.{◌==◌, Result, IfOk, OnOk}
 use Rattle.std.specs.List.{All, Contains}
 use Rattle.std.specs.List.Sorted.{IsPermutation}
@@ -7,9 +7,9 @@ use Rattle.std.proofs.Math.Nat.{mul-pos}
 use Rattle.std.proofs.lemmas.List.Elements.{All-nil, All-cons, All-head, All-push, All-weaker, All-contains, All-get_or}
 use Rattle.std.proofs.lemmas.List.Sorted.{IsPermutation-refl, IsPermutation-sym, IsPermutation-trans, IsPermutation-cons, IsPermutation-append_left, IsPermutation-append_right, IsPermutation-map, IsPermutation-to_front, All-permutation, Contains-permutation}
 use Rattle.list_laws.proofs.Members.{head_or_tail}
+use Rattle.list_laws.proofs.Orders.{same, front, flat_map_IsPermutation}
+use Rattle.list_laws.proofs.Tests.{not_both_ways}
 use Rattle.tpf_base.specs.Addresses.{Address}
-use Rattle.bgp_core.proofs.Patterns.{same}
-use Rattle.bgp_core.proofs.Orders.{front, flat_map-IsPermutation}
 use Rattle.join_core.specs.declared.evaluation.Ask.{Ask}
 use Rattle.join_core.specs.Rounds.{RoundData, addresses_in}
 use Rattle.join_core.specs.Worlds.{World}
@@ -140,7 +140,7 @@ module _ (old : FederationData) (j : JoinData) (g : GatheringData) (ticket : ℕ
   round-left w handed =
       let wanted = all_wanted old.rounds in
       let rest = addresses_in (left_over w j) in
-      let one : IsPermutation (addresses_in (left_over w old.join)) (b.ask.round.addresses ++ rest) = flat_map-IsPermutation (λ (r : RoundData). r.addresses) (left_over w old.join) (b.ask.round ∷ left_over w j) handed.left in
+      let one : IsPermutation (addresses_in (left_over w old.join)) (b.ask.round.addresses ++ rest) = flat_map_IsPermutation (λ (r : RoundData). r.addresses) (left_over w old.join) (b.ask.round ∷ left_over w j) handed.left in
       let two : IsPermutation (addresses_in (left_over w old.join)) ((address ∷ g.wanted) ++ rest) = subst (λ (l : List Address). IsPermutation (addresses_in (left_over w old.join)) (l ++ rest)) b.hands.wanted one in
       let three = IsPermutation-append_right wanted (addresses_in (left_over w old.join)) ((address ∷ g.wanted) ++ rest) two in
       let four : IsPermutation (wanted ++ ((address ∷ g.wanted) ++ rest)) (address ∷ (g.wanted ++ (wanted ++ rest))) = front wanted (address ∷ g.wanted) rest in
@@ -280,15 +280,11 @@ asked-small sizes old new (Some ask) k a = elim a.asked [
 
 -- ---- nothing to ask for
 
-true-not-false : (b : Bool) → b ≡ true → b ≡ false → ⊥
-true-not-false true e f = cc
-true-not-false false e f = cc
-
 -- where no ticket is out and no address is wanted, no round is gathered
 no-rounds : (homes : List Address) (rounds : List GatheringData) → All (KeepsRound homes) rounds → NoneWant rounds → all_tickets rounds ≡ [] → rounds ≡ []
 no-rounds homes [] k none e = refl
 no-rounds homes (g ∷ rounds) k none e =
-    absurd (true-not-false (is_whole g) (is-whole g (All-head (λ (x : GatheringData). x.wanted ≡ []) g rounds none) (front-none (tickets_of g) (all_tickets rounds) e)) (All-head (KeepsRound homes) g rounds k).open_still)
+    absurd (not_both_ways (is_whole g) (is-whole g (All-head (λ (x : GatheringData). x.wanted ≡ []) g rounds none) (front-none (tickets_of g) (all_tickets rounds) e)) (All-head (KeepsRound homes) g rounds k).open_still)
 
 idle-over : (terms : Terms) (old : FederationData) → KeepsAll terms old → NoneWant old.rounds → NothingToAsk old.join → EndsInQuiet (standing_of old)
 idle-over terms old k none nothing = λ e waits.

@@ -1,21 +1,20 @@
 -- A round that hands out an address, or takes a page.
-use Rattle.std.proofs.Common.{ℕ, suc, ◌≡◌, Bool, true, false, ◌&&◌, List, [], ◌∷◌, ◌++◌, length, map, Option, Some, None, refl, ap, ap₂, sym, subst, ◌∙◌, arith, append-nil}
+use Rattle.std.proofs.Common.{ℕ, ◌≡◌, Bool, true, false, ◌&&◌, List, [], ◌∷◌, ◌++◌, length, map, Option, Some, None, refl, ap, ap₂, sym, subst, ◌∙◌, append-nil}
 use Rattle.std.specs.Prelude.{◌==◌, is_some, option_to_list}
 use Rattle.std.specs.List.{All, flat_map}
 use Rattle.std.specs.Option.{option_map}
 use Rattle.std.specs.List.Sorted.{IsPermutation}
 use Rattle.std.proofs.lemmas.Bool.{and_parts}
-use Rattle.std.proofs.lemmas.Bool.Decides.{nat_tests}
 use Rattle.std.proofs.lemmas.List.{map-append}
 use Rattle.std.proofs.lemmas.List.Concat.{flat_map-append}
 use Rattle.std.proofs.lemmas.List.Elements.{All-nil, All-cons, All-head, All-tail, All-push}
 use Rattle.std.proofs.lemmas.List.Folds.{list_all-append}
 use Rattle.std.proofs.lemmas.List.Sorted.{IsPermutation-sym, IsPermutation-trans, IsPermutation-middle, IsPermutation-to_front, All-permutation}
-use Rattle.list_laws.proofs.Lists.{map_snoc, snoc_append}
+use Rattle.list_laws.proofs.Lists.{map_snoc, snoc_append, none_wanted}
+use Rattle.list_laws.proofs.Orders.{same}
 use Rattle.rdf_terms.specs.declared.term.Triple.{Triple}
 use Rattle.tpf_base.specs.Addresses.{Address}
 use Rattle.fragment_page.specs.declared.page.Page.{Page}
-use Rattle.bgp_core.proofs.Patterns.{same}
 use Rattle.join_core.specs.Evaluations.{HasHome, NextAtHome}
 use Rattle.join_core.specs.Rounds.{RoundData, round_of_one, NextRoundAtHome}
 use Rattle.join_core.specs.Worlds.{World}
@@ -74,18 +73,11 @@ taken-tickets old new ticket page h = of-taken (λ (p : PartData). ticket_while 
 
 -- ---- whole rounds
 
-no-suc : (n : ℕ) → (suc n == 0) ≡ true → ⊥
-no-suc n e = grind (arith, nat_tests)
-
-none-wanted : (wanted : List Address) (b : Bool) → ((length wanted == 0) && b) ≡ true → (wanted ≡ []) × (b ≡ true)
-none-wanted [] b e = (refl, e)
-none-wanted (a ∷ wanted) b e = absurd (no-suc (length wanted) (and_parts (suc (length wanted) == 0) b e).0)
-
 pub whole-wants : (g : GatheringData) → is_whole g ≡ true → g.wanted ≡ []
-whole-wants g e = (none-wanted g.wanted (are_there g.parts) e).0
+whole-wants g e = (none_wanted g.wanted (are_there g.parts) e).0
 
 whole-there : (g : GatheringData) → is_whole g ≡ true → are_there g.parts ≡ true
-whole-there g e = (none-wanted g.wanted (are_there g.parts) e).1
+whole-there g e = (none_wanted g.wanted (are_there g.parts) e).1
 
 pub whole-outs : (g : GatheringData) → is_whole g ≡ true → outs_of g ≡ []
 whole-outs g e = of-whole (λ (p : PartData). out_while p.ticket p.address p.page) g.parts (λ ticket address page. refl) (whole-there g e)

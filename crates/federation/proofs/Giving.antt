@@ -4,8 +4,8 @@ use Rattle.std.specs.Prelude.{MatchOption, ⊤}
 use Rattle.std.specs.List.{All, Contains}
 use Rattle.std.proofs.lemmas.List.Elements.{All-weaker}
 use Rattle.std.proofs.lemmas.List.Sorted.{IsPermutation-refl, IsPermutation-append_right}
+use Rattle.list_laws.proofs.Orders.{flat_map_IsPermutation}
 use Rattle.bgp_core.specs.Solutions.{Places}
-use Rattle.bgp_core.proofs.Orders.{flat_map-IsPermutation}
 use Rattle.join_core.specs.Rounds.{RoundData, addresses_in}
 use Rattle.join_core.specs.Worlds.{World}
 use Rattle.join_core.specs.Joins.{JoinData, GivesRow, out, left_over}
@@ -36,7 +36,7 @@ row-owes worlds old j row g =
     let w = joint_world worlds in
     record {
       owed = g.owed;
-      left = IsPermutation-append_right (all_wanted old.rounds) (addresses_in (left_over w old.join)) (addresses_in (left_over w j)) (flat_map-IsPermutation (λ (r : RoundData). r.addresses) (left_over w old.join) (left_over w j) g.left);
+      left = IsPermutation-append_right (all_wanted old.rounds) (addresses_in (left_over w old.join)) (addresses_in (left_over w j)) (flat_map_IsPermutation (λ (r : RoundData). r.addresses) (left_over w old.join) (left_over w j) g.left);
       out = IsPermutation-refl _;
     }
 

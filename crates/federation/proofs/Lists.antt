@@ -8,8 +8,7 @@ use Rattle.std.proofs.lemmas.List.{set_split, take-set, drop-set-lt}
 use Rattle.std.proofs.lemmas.List.Elements.{All-nil, All-head, All-tail, All-cons, All-weaker, All-contains, All-contains_itself}
 use Rattle.std.proofs.lemmas.List.Sorted.{IsPermutation-refl, IsPermutation-sym, IsPermutation-trans, IsPermutation-cons, IsPermutation-middle, IsPermutation-append_left, IsPermutation-to_front, All-permutation, sum_by-IsPermutation, length_permutation}
 use Rattle.list_laws.proofs.Lists.{count_cons}
-use Rattle.bgp_core.proofs.Patterns.{same}
-use Rattle.bgp_core.proofs.Orders.{flat_map-IsPermutation}
+use Rattle.list_laws.proofs.Orders.{same, flat_map_IsPermutation}
 use Rattle.joint_pages.proofs.Places.{split-there}
 
 -- ---- one element and the others
@@ -55,27 +54,27 @@ module _ {X A : Type 0} (f : X → List A) where
   -- the parts of a list by the elements of another, of which one changes
   pub parts-keep : (old new others : List X) (x y : X) → IsPermutation old (x ∷ others) → IsPermutation new (y ∷ others) → IsPermutation (f x) (f y) → IsPermutation (flat_map f old) (flat_map f new)
   parts-keep old new others x y was now h =
-      IsPermutation-trans _ _ _ (flat_map-IsPermutation f old (x ∷ others) was)
-      (IsPermutation-trans _ _ _ (IsPermutation-append_left (flat_map f others) (f x) (f y) h) (IsPermutation-sym _ _ (flat_map-IsPermutation f new (y ∷ others) now)))
+      IsPermutation-trans _ _ _ (flat_map_IsPermutation f old (x ∷ others) was)
+      (IsPermutation-trans _ _ _ (IsPermutation-append_left (flat_map f others) (f x) (f y) h) (IsPermutation-sym _ _ (flat_map_IsPermutation f new (y ∷ others) now)))
 
   -- one part is no more
   pub parts-lose : (old new others : List X) (x y : X) (a : A) → IsPermutation old (x ∷ others) → IsPermutation new (y ∷ others) → IsPermutation (f x) (a ∷ f y) → IsPermutation (flat_map f old) (a ∷ flat_map f new)
   parts-lose old new others x y a was now h =
-      IsPermutation-trans _ _ _ (flat_map-IsPermutation f old (x ∷ others) was)
-      (IsPermutation-trans _ _ _ (IsPermutation-append_left (flat_map f others) (f x) (a ∷ f y) h) (IsPermutation-cons a _ _ (IsPermutation-sym _ _ (flat_map-IsPermutation f new (y ∷ others) now))))
+      IsPermutation-trans _ _ _ (flat_map_IsPermutation f old (x ∷ others) was)
+      (IsPermutation-trans _ _ _ (IsPermutation-append_left (flat_map f others) (f x) (a ∷ f y) h) (IsPermutation-cons a _ _ (IsPermutation-sym _ _ (flat_map_IsPermutation f new (y ∷ others) now))))
 
   -- the element is no more, which had that part alone
   pub parts-end : (old new others : List X) (x : X) (part : List A) → IsPermutation old (x ∷ others) → IsPermutation new others → IsPermutation (f x) part → IsPermutation (flat_map f old) (part ++ flat_map f new)
   parts-end old new others x part was now h =
-      let left : IsPermutation (part ++ flat_map f others) (part ++ flat_map f new) = behind part (flat_map f others) (flat_map f new) (IsPermutation-sym _ _ (flat_map-IsPermutation f new others now)) in
-      IsPermutation-trans _ _ _ (flat_map-IsPermutation f old (x ∷ others) was) (IsPermutation-trans _ _ _ (IsPermutation-append_left (flat_map f others) (f x) part h) left) where
+      let left : IsPermutation (part ++ flat_map f others) (part ++ flat_map f new) = behind part (flat_map f others) (flat_map f new) (IsPermutation-sym _ _ (flat_map_IsPermutation f new others now)) in
+      IsPermutation-trans _ _ _ (flat_map_IsPermutation f old (x ∷ others) was) (IsPermutation-trans _ _ _ (IsPermutation-append_left (flat_map f others) (f x) part h) left) where
         behind : (part xs ys : List A) → IsPermutation xs ys → IsPermutation (part ++ xs) (part ++ ys)
         behind [] xs ys p = p
         behind (a ∷ part) xs ys p = IsPermutation-cons a _ _ (behind part xs ys p)
 
   -- one more element
   pub parts-more : (old : List X) (y : X) → IsPermutation (flat_map f (old ++ y ∷ [])) (f y ++ flat_map f old)
-  parts-more old y = flat_map-IsPermutation f (old ++ y ∷ []) (y ∷ old) (IsPermutation-to_front old y)
+  parts-more old y = flat_map_IsPermutation f (old ++ y ∷ []) (y ∷ old) (IsPermutation-to_front old y)
 
 -- ---- how often a number stands in a list
 
