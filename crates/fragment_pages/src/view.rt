@@ -46,7 +46,8 @@ fn slot_id<L: Ledger>(table: &Table, slot: &Slot, steps: &mut Steps<L>) -> Optio
 fn pattern_of<L: Ledger>(table: &Table, slots: &Slots, steps: &mut Steps<L>) -> Option<IdPattern>
     ensures pattern { IsPatternOf table.now slots.now result }
     ensures counted { steps.old ≤ steps.new }
-    ensures cost { (digits : ℕ) → length (triples_in table.now) < 2 ^ digits → steps.new ≤ steps.old + 3 * (digits + 2) }
+    ensures cost { (digits : ℕ) → length (triples_in table.now) < 2 ^ digits
+        → steps.new ≤ steps.old + 3 * (digits + 2) }
 {
     let subject = slot_id(table, &slots.subject, steps)?;
     let predicate = slot_id(table, &slots.predicate, steps)?;
@@ -63,7 +64,8 @@ fn range_of<L: Ledger>(table: &Table, slots: &Slots, steps: &mut Steps<L>) -> Ra
     ensures range { IsRange table.now result }
     ensures fragment { listed table.now result ≡ fragment (triples_in table.now) slots.now }
     ensures counted { steps.old ≤ steps.new }
-    ensures cost { (digits : ℕ) → length (triples_in table.now) < 2 ^ digits → steps.new ≤ steps.old + (5 * digits + 10) }
+    ensures cost { (digits : ℕ) → length (triples_in table.now) < 2 ^ digits
+        → steps.new ≤ steps.old + (5 * digits + 10) }
 {
     match pattern_of(table, slots, steps) {
         Some(pattern) => table.range(&pattern, steps),
@@ -124,9 +126,11 @@ pub fn page<L: Ledger>(
     steps: &mut Steps<L>,
 ) -> Option<PageView>
     requires { 1 ≤ size }
-    ensures page { MatchOption result (IsPageNumber table.now slots.now k size → ⊥) (λ view. IsPageNumber table.now slots.now k size × IsPage table.now slots.now k size view) }
+    ensures page { MatchOption result (IsPageNumber table.now slots.now k size → ⊥) (λ view.
+        IsPageNumber table.now slots.now k size × IsPage table.now slots.now k size view) }
     ensures counted { steps.old ≤ steps.new }
-    ensures cost { (digits : ℕ) → length (triples_in table.now) < 2 ^ digits → steps.new ≤ steps.old + (5 * digits + 10) }
+    ensures cost { (digits : ℕ) → length (triples_in table.now) < 2 ^ digits
+        → steps.new ≤ steps.old + (5 * digits + 10) }
 {
     let range = range_of(table, slots, steps);
     let count = table.count(&range) as u64;
