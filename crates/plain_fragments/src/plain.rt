@@ -35,7 +35,9 @@ fn put_match(
     triple: &Triple,
     sorted: &mut Vec<Triple>,
 ) -> Result<(), OutOfMemory>
-    ensures { OnOk result (sorted.new.items ≡ (if matches slots.now triple.now then put (order_of slots.now) triple.now sorted.old.items else sorted.old.items)) }
+    ensures { OnOk result (sorted.new.items ≡ (if matches slots.now triple.now
+        then put (order_of slots.now) triple.now sorted.old.items
+        else sorted.old.items)) }
 {
     if slots.matches(triple) {
         put(slots, triple.copy(alloc)?, sorted)?;
