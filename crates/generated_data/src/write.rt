@@ -26,11 +26,13 @@ const ROOM: usize = 1024;
 /// rose in this call, and never over a faultless sink; `OutOfMemory` comes where memory runs out.
 pub fn write_generated<K: Sink>(alloc: Global, persons: u32, out: &mut K) -> Result<(), Fault>
     ensures ok { OnOk result (Appends (K.state out.old).taken (K.state out.new).taken (canon (generated persons))) }
-    ensures err { OnErr result (AppendsPrefix (K.state out.old).taken (K.state out.new).taken (canon (generated persons))) }
+    ensures err { OnErr result
+        (AppendsPrefix (K.state out.old).taken (K.state out.new).taken (canon (generated persons))) }
     ensures later { (K.state out.old).faults ≤ (K.state out.new).faults }
     ensures failed { IsErrOf result Fault.Failed → Rose (K.state out.old).faults (K.state out.new).faults }
     ensures faultless { (K.state out.new).faultless ≡ (K.state out.old).faultless }
-    ensures spared { (K.state out.old).faultless ≡ true → DoesNotFail (K.state out.old).faults (K.state out.new).faults result }
+    ensures spared { (K.state out.old).faultless ≡ true
+        → DoesNotFail (K.state out.old).faults (K.state out.new).faults result }
 {
     let Ok(mut piece) = Vec::with_capacity(alloc, PIECE + ROOM) else {
         return Err(Fault::OutOfMemory);
