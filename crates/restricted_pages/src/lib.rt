@@ -19,4 +19,4 @@ mod patterns;
 mod scan;
 mod sieve;
 
-pub use page::{RestrictedPage, restricted_page};
+pub use page::{ALWAYS_LISTED, RestrictedPage, restricted_page};

@@ -28,7 +28,7 @@ pub struct RestrictedPage {
 }
 
 /// However few triples a table has, so many are listed and sorted rather than looked for in the whole fragment.
-const ALWAYS_LISTED: u64 = 4096;
+pub const ALWAYS_LISTED: u64 = 4096;
 
 /// At most one triple in so many of a table is listed and sorted.
 const LISTED_SHARE: u64 = 16;
@@ -188,7 +188,7 @@ fn walked_page(
 /// walked once: up to the end of the page, or, where rows of different kinds leave triples in common, to its own end to
 /// count them. Each triple is held by numbers against the rows whose ids have its remainders: of 64 some eight. The
 /// memory is that of the page, of 512 lists of rows, and of a list of at most a sixteenth of the table's triples or of
-/// 4096.
+/// `ALWAYS_LISTED` (4096).
 pub fn restricted_page<L: Ledger>(
     alloc: Global,
     table: &Table,
