@@ -1,6 +1,7 @@
 -- What stands between the marks of an IRI: the reader and the grammar agree.
 use Rattle.std.proofs.Common.{ℕ, ◌≡◌, ◌+◌, inl, inr, false, true, ◌&&◌, List, ◌∷◌, ◌++◌, length, take, drop, Option, Some, nat_eq, refl, ap, sym, subst, ◌∙◌, arith}
 use Rattle.std.proofs.lemmas.Option.{same_Some}
+use Rattle.list_laws.proofs.Lists.{front_of, behind_mark}
 use Rattle.list_laws.proofs.Options.{bind_some}
 use Rattle.list_laws.specs.Options.{◌>>=◌}
 use Rattle.rdf_terms.specs.Iri.{is_iri_byte}
@@ -9,7 +10,7 @@ use Rattle.nquads_text.specs.declared.scan.Awaits.TheVariants.{Item, Escape, Dig
 use Rattle.nquads_text.specs.Scan.{is_item, opened, iri_step, iri_end}
 use Rattle.nquads_text.specs.Raw.{iri_part}
 use Rattle.nquads_text.specs.Grammar.{IsIriItem, ReadsIri}
-use Rattle.nquads_text.proofs.Items.{Scans, Partial, Next, goes, plain_step, numeric_end, text_end, take_front, behind_mark, item_next, escape_next, digit_next, end_text, opened_some}
+use Rattle.nquads_text.proofs.Items.{Scans, Partial, Next, goes, plain_step, numeric_end, text_end, item_next, escape_next, digit_next, end_text, opened_some}
 
 -- ---- from the grammar to the reader
 
@@ -33,7 +34,7 @@ pub iri_part-at : (bytes text rest : List ℕ) → ReadsIri bytes text rest → 
 unfolding iri_part
 iri_part-at bytes text rest r =
     let end : iri_end Item 0 (text ++ 62 ∷ rest) ≡ Some (length text) = text_end iri_scans IsIriItem iri_item text rest r.0 in
-    let at : iri_part (60 ∷ (text ++ 62 ∷ rest)) ≡ Some (text, rest) = rw (end, take_front text (62 ∷ rest), behind_mark text rest 62) refl in
+    let at : iri_part (60 ∷ (text ++ 62 ∷ rest)) ≡ Some (text, rest) = rw (end, front_of text (62 ∷ rest), behind_mark text rest 62) refl in
     subst (λ (l : List ℕ). iri_part l ≡ Some (text, rest)) (sym r.1) at
 
 -- ---- from the reader to the grammar

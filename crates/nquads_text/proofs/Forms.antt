@@ -1,6 +1,7 @@
 -- What stands between the marks of a form: the reader and the grammar agree.
 use Rattle.std.proofs.Common.{ℕ, ◌≡◌, ◌+◌, inl, inr, Bool, if◌then◌else◌, false, true, ◌&&◌, List, [], ◌∷◌, ◌++◌, length, take, drop, Option, Some, nat_eq, refl, ap, sym, subst, ◌∙◌, arith}
 use Rattle.std.proofs.lemmas.Option.{same_Some}
+use Rattle.list_laws.proofs.Lists.{front_of, behind_mark}
 use Rattle.list_laws.proofs.Options.{bind_some}
 use Rattle.list_laws.specs.Options.{◌>>=◌}
 use Rattle.nquads_text.specs.declared.scan.Awaits.{Awaits}
@@ -8,7 +9,7 @@ use Rattle.nquads_text.specs.declared.scan.Awaits.TheVariants.{Item, Escape, Dig
 use Rattle.nquads_text.specs.Scan.{is_item, opened, digits_after, form_step, form_end}
 use Rattle.nquads_text.specs.Raw.{form_part}
 use Rattle.nquads_text.specs.Grammar.{is_form_byte, is_short_escape, IsFormItem, ReadsForm}
-use Rattle.nquads_text.proofs.Items.{Scans, Partial, Next, goes, plain_step, numeric_end, text_end, take_front, behind_mark, whole_next, item_next, escape_next, digit_next, end_text, opened_some}
+use Rattle.nquads_text.proofs.Items.{Scans, Partial, Next, goes, plain_step, numeric_end, text_end, whole_next, item_next, escape_next, digit_next, end_text, opened_some}
 
 -- ---- from the grammar to the reader
 
@@ -37,7 +38,7 @@ pub form_part-at : (bytes text rest : List ℕ) → ReadsForm bytes text rest �
 unfolding form_part
 form_part-at bytes text rest r =
     let end : form_end Item 0 (text ++ 34 ∷ rest) ≡ Some (length text) = text_end form_scans IsFormItem form_item text rest r.0 in
-    let at : form_part (34 ∷ (text ++ 34 ∷ rest)) ≡ Some (text, rest) = rw (end, take_front text (34 ∷ rest), behind_mark text rest 34) refl in
+    let at : form_part (34 ∷ (text ++ 34 ∷ rest)) ≡ Some (text, rest) = rw (end, front_of text (34 ∷ rest), behind_mark text rest 34) refl in
     subst (λ (l : List ℕ). form_part l ≡ Some (text, rest)) (sym r.1) at
 
 -- ---- from the reader to the grammar

@@ -22,14 +22,6 @@ plain_step true w e f = cc
 plain_step false true e f = refl
 plain_step false false e f = cc
 
-pub take_front : (xs ys : List ℕ) → take (length xs) (xs ++ ys) ≡ xs
-take_front [] ys = refl
-take_front (x ∷ xs) ys = ap (λ (l : List ℕ). x ∷ l) (take_front xs ys)
-
-pub drop_front : (xs : List ℕ) (y : ℕ) (ys : List ℕ) → drop (suc (length xs)) (xs ++ y ∷ ys) ≡ ys
-drop_front [] y ys = refl
-drop_front (x ∷ xs) y ys = drop_front xs y ys
-
 pub take_drop : (n : ℕ) (xs : List ℕ) → xs ≡ take n xs ++ drop n xs
 take_drop zero xs = refl
 take_drop (suc n) [] = refl
@@ -139,9 +131,6 @@ module _ {mark : ℕ} {step : Awaits → ℕ → Option Awaits} {end : Awaits �
       let at : end Item 0 (all_of h.0 ++ mark ∷ rest) ≡ Some (0 + length (all_of h.0)) = items_end IsOne one h.0 0 rest h.1 in
       let none : 0 + length (all_of h.0) ≡ length (all_of h.0) = omega arith in
       subst (λ (l : List ℕ). end Item 0 (l ++ mark ∷ rest) ≡ Some (length l)) (sym h.2) (at ∙ ap (λ (k : ℕ). Some k) none)
-
-pub behind_mark : (text rest : List ℕ) (mark : ℕ) → drop (length text + 1) (text ++ mark ∷ rest) ≡ rest
-behind_mark text rest mark = let more : suc (length text) ≡ length text + 1 = omega arith in subst (λ (k : ℕ). drop k (text ++ mark ∷ rest) ≡ rest) more (drop_front text mark rest)
 
 -- ---- from the reader to the grammar
 

@@ -1,5 +1,6 @@
 -- The length of canonical text, by the law of terms.
-use Rattle.std.proofs.Common.{ℕ, ◌≡◌, ◌+◌, ◌*◌, ◌≤◌, Bool, true, false, if◌then◌else◌, List, [], ◌∷◌, length, arith}
+use Rattle.std.proofs.Common.{ℕ, ◌≡◌, ◌+◌, ◌*◌, ◌≤◌, List, [], ◌∷◌, length, arith}
+use Rattle.list_laws.proofs.Tests.{one_mark}
 use Rattle.rdf_terms.specs.Canon.{is_marked, canonical_term, marks, kind_len}
 use Rattle.rdf_terms.specs.declared.term.Term.TheVariants.{Iri, Literal}
 use Rattle.rdf_terms.specs.declared.term.Kind.{Kind}
@@ -10,10 +11,6 @@ literal_len_is form kind = canonical_len_is (Literal form kind)
 
 pub iri_len_is : (text : List ℕ) → length (canonical_term (Iri text)) ≡ length text + 2
 iri_len_is text = canonical_len_is (Iri text)
-
-one_mark : (k : Bool) → (if k then 1 else 0) ≤ 1
-one_mark true = omega arith
-one_mark false = omega arith
 
 marks_within : (form : List ℕ) → marks form ≤ length form
 marks_within [] = omega arith

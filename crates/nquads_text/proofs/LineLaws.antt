@@ -3,7 +3,7 @@ use Rattle.std.proofs.Common.{ℕ, ◌≡◌, ◌⊎◌, inl, inr, Bool, if◌th
 use Rattle.std.specs.Option.{option_map}
 use Rattle.std.specs.Str.{IsUtf8, is_utf8}
 use Rattle.std.proofs.lemmas.Str.{IsUtf8-from_is_utf8, is_utf8-from_IsUtf8}
-use Rattle.std.proofs.lemmas.Bool.{cases_Bool}
+use Rattle.std.proofs.lemmas.Bool.{cases_Bool, both_ways}
 use Rattle.rdf_terms.specs.declared.term.Quad.{Quad}
 use Rattle.nquads_text.specs.declared.fault.Why.{Why}
 use Rattle.nquads_text.specs.declared.fault.Why.TheVariants.{Utf8, Statement, Escape, RelativeIri, LangString, TermTooLong}
@@ -67,10 +67,6 @@ sound_raw : (longest : ℕ) (line : List ℕ) (raw : Quad) (x : Option Quad) →
 sound_raw longest line raw None u st e = (u, (raw, st, quad_bad raw (written line raw u st) e))
 sound_raw longest line raw (Some q) u st e = sound_quad longest line raw q (fault_of longest q) u st (quad_means raw q (written line raw u st) e) refl
 
-is_not : (b : Bool) → b ≡ false → b ≡ true → ⊥
-is_not true e f = cc
-is_not false e f = cc
-
 none_some : {A : Type 0} (o : Option A) (x : A) → o ≡ None → o ≡ Some x → ⊥
 none_some None x e f = cc
 none_some (Some y) x e f = cc
@@ -79,7 +75,7 @@ sound_form : (longest : ℕ) (line : List ℕ) → is_utf8 line ≡ true → is_
 sound_form longest line u o None s =
     subst (λ (r : Outcome). Sound longest line r) (sym (no_form longest line u o s)) (
       IsUtf8-from_is_utf8 line u,
-      λ h. is_not (is_over (skipped line)) o (none_over line h),
+      λ h. both_ways (is_over (skipped line)) o (none_over line h),
       λ raw st. none_some (statement_of (skipped line)) raw s (statement_read line raw st).read,
     )
 sound_form longest line u o (Some raw) s =
@@ -91,7 +87,7 @@ sound_text longest line u (inr o) = sound_form longest line u o (statement_of (s
 
 sound_by : (longest : ℕ) (line : List ℕ) → (is_utf8 line ≡ true) ⊎ (is_utf8 line ≡ false) → Sound longest line (line_read longest line)
 sound_by longest line (inl u) = sound_text longest line u (cases_Bool (is_over (skipped line)))
-sound_by longest line (inr u) = subst (λ (r : Outcome). Sound longest line r) (sym (not_text longest line u)) (λ v. is_not (is_utf8 line) u (is_utf8-from_IsUtf8 line v))
+sound_by longest line (inr u) = subst (λ (r : Outcome). Sound longest line r) (sym (not_text longest line u)) (λ v. both_ways (is_utf8 line) u (is_utf8-from_IsUtf8 line v))
 
 sound : (longest : ℕ) (line : List ℕ) → Sound longest line (line_read longest line)
 sound longest line = sound_by longest line (cases_Bool (is_utf8 line))

@@ -1,6 +1,8 @@
 -- The reader of lines, and what a text reads as.
 use Rattle.std.specs.List.{All}
 use Rattle.std.proofs.Common.{ℕ, zero, suc, ◌≡◌, ◌+◌, ◌⊎◌, inl, inr, List, [], ◌∷◌, ◌++◌, length, Option, Some, None, Result, Ok, Err, refl, ap, sym, subst, ◌∙◌, arith, append_assoc, append-nil}
+use Rattle.list_laws.proofs.Each.{all_so}
+use Rattle.rdf_terms.specs.Sizes.{IsShortTriple}
 use Rattle.rdf_terms.specs.declared.term.Quad.{Quad}
 use Rattle.nquads_text.specs.declared.fault.Why.{Why}
 use Rattle.std.specs.Option.{option_to_list}
@@ -145,6 +147,13 @@ lines_all longest (line ∷ lines) quads h = subst (λ (l : List Quad). AllByRec
 
 pub all_readable : (bytes : List ℕ) (longest : ℕ) (quads : List Quad) → Reads bytes longest quads → AllByRecursion (IsReadable longest) quads
 all_readable bytes longest quads h = lines_all longest (lines_of bytes) quads h
+
+short_quad : (longest : ℕ) (q : Quad) → IsReadable longest q → IsShortTriple longest q.triple
+short_quad longest q r = record { subject = record { fits = r.subject.fits; label = r.subject.label }; predicate = record { fits = r.predicate.fits; label = r.predicate.label }; object = record { fits = r.object.fits; label = r.object.label } }
+
+-- the terms of such quads are short
+pub short_quads : (longest : ℕ) (quads : List Quad) → AllByRecursion (IsReadable longest) quads → AllByRecursion (λ (q : Quad). IsShortTriple longest q.triple) quads
+short_quads longest quads h = all_so (IsReadable longest) (λ (q : Quad). IsShortTriple longest q.triple) (short_quad longest) quads h
 
 -- a test that holds of each holds at each place
 pub at_each : {P R : Quad → Type 0} → ((q : Quad) → P q → R q) → (quads : List Quad) → AllByRecursion P quads → All R quads

@@ -2,10 +2,10 @@
 use Rattle.std.proofs.Common.{ℕ, ◌≡◌, ◌<◌, inl, inr, Bool, if◌then◌else◌, true, false, not, ◌&&◌, ◌||◌, nat_eq, nat_lt, List, [], ◌∷◌, ◌++◌, length, Option, Some, None, refl, ap, sym, subst, ◌∙◌, arith, append_assoc}
 use Rattle.std.specs.List.{list_all, AllByRecursion}
 use Rattle.std.specs.Option.{option_map}
-use Rattle.std.specs.Char.{to_ascii_lowercase}
 use Rattle.std.specs.Str.{IsUtf8}
 use Rattle.std.proofs.lemmas.Str.{IsUtf8-nil, IsUtf8-append}
 use Rattle.std.proofs.lemmas.Bool.{and_parts, le-ltb, not-true, or_parts}
+use Rattle.list_laws.proofs.Bytes.{cons_utf8}
 use Rattle.rdf_terms.specs.Iri.{is_iri, is_iri_byte, has_scheme}
 use Rattle.rdf_terms.specs.Label.{is_label}
 use Rattle.rdf_terms.specs.Tag.{is_tag, is_lower_tag, is_upper, lower}
@@ -18,6 +18,7 @@ use Rattle.rdf_terms.specs.declared.term.Term.{Term}
 use Rattle.rdf_terms.specs.declared.term.Term.TheVariants.{Iri, Blank, Literal}
 use Rattle.rdf_terms.specs.declared.term.Kind.{Kind}
 use Rattle.rdf_terms.specs.declared.term.Kind.TheVariants.{Plain, Typed, Tagged}
+use Rattle.rdf_terms.proofs.Tags.{lower_all}
 use Rattle.nquads_text.specs.declared.fault.Why.{Why}
 use Rattle.nquads_text.specs.Grammar.{is_form_byte, is_short_escape, IsIriItem, IsFormItem, all_of, Each, AreItems, SkipsBlanks, ReadsKind, ReadsTerm, ReadsGraph, IsStatement}
 use Rattle.nquads_text.specs.Meaning.{short_value, item_value, items_value, MeansText, MeansKind, MeansTerm, MeansGraph, MeansQuad}
@@ -50,15 +51,6 @@ datatype_parts text h =
     let p = and_parts (is_iri text && not (is_xsd_string text)) (not (is_lang_string text)) h in
     let q = and_parts (is_iri text) (not (is_xsd_string text)) p.0 in
     record { iri = iri_parts text q.0; no_string = not-true (is_xsd_string text) q.1; no_lang = not-true (is_lang_string text) p.1 }
-
-lower_same : (b : ℕ) → is_upper b ≡ false → to_ascii_lowercase b ≡ b
-lower_same b h = grind (arith, h)
-
-lower_all : (tag : List ℕ) → list_all (λ b. not (is_upper b)) tag ≡ true → lower tag ≡ tag
-lower_all [] h = refl
-lower_all (b ∷ tag) h =
-    let p = and_parts (not (is_upper b)) (list_all (λ b. not (is_upper b)) tag) h in
-    rw (lower_same b (not-true (is_upper b) p.0), lower_all tag p.1) refl
 
 pub record TagParts (tag : List ℕ) : Type 0 where
   pub is_one : is_tag tag ≡ true
@@ -236,9 +228,6 @@ line_cut (b ∷ text) rest h =
     rw (q.0, q.1, line_cut text rest p.1) refl
 
 -- ---- UTF-8
-
-cons_utf8 : (b : ℕ) (text : List ℕ) → b < 128 → IsUtf8 text → IsUtf8 (b ∷ text)
-cons_utf8 b text h u = IsUtf8-append (b ∷ []) text (one_ascii b h) u
 
 marked_low : (b : ℕ) → is_marked b ≡ true → (b < 128) × (after_mark b < 128)
 marked_low b h = (grind (arith, h), grind (arith, h))

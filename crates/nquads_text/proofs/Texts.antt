@@ -6,9 +6,11 @@ use Rattle.std.specs.Str.{IsUtf8}
 use Rattle.std.proofs.lemmas.Str.{IsUtf8-append, IsUtf8-encode}
 use Rattle.std.proofs.lemmas.Bool.{and_parts}
 use Rattle.std.proofs.lemmas.Option.{same_Some}
+use Rattle.list_laws.proofs.Each.{all_joined}
 use Rattle.list_laws.proofs.Options.{bind_some, when_some}
 use Rattle.list_laws.specs.Options.{◌>>=◌}
 use Rattle.rdf_terms.specs.Iri.{is_iri_byte}
+use Rattle.rdf_terms.proofs.Iris.{high_byte}
 use Rattle.nquads_text.specs.Grammar.{is_hex, is_short_escape, IsNumeric, IsIriItem, all_of, Each}
 use Rattle.nquads_text.specs.Meaning.{short_value, hex_value, is_scalar, is_nameable, named, item_value, items_value, IsItem, MeansText}
 use Rattle.nquads_text.proofs.Utf8.{before_ascii, after_ascii, one_ascii}
@@ -100,13 +102,6 @@ text_utf8 iri bytes text u m = grows iri m.0 m.1 [] text (subst (λ (l : List �
 abbrev all_iri : List ℕ → Type 0
 all_iri bs = list_all is_iri_byte bs ≡ true
 
-high_byte : (b : ℕ) → 128 ≤ b → is_iri_byte b ≡ true
-high_byte b h = grind arith
-
-all_append : (xs ys : List ℕ) → all_iri xs → all_iri ys → all_iri (xs ++ ys)
-all_append [] ys h k = k
-all_append (x ∷ xs) ys h k = let p = and_parts (is_iri_byte x) (list_all is_iri_byte xs) h in rw (p.0, all_append xs ys p.1 k) refl
-
 all_one : (b : ℕ) → is_iri_byte b ≡ true → all_iri (b ∷ [])
 all_one b h = rw h refl
 
@@ -155,7 +150,7 @@ items_iri [] text h e = subst (λ (l : List ℕ). all_iri l) (same_Some [] text 
 items_iri (item ∷ items) text h e =
     let a = bind_some (item_value true item) (λ (t : List ℕ). items_value true items >>= λ m. Some (t ++ m)) text e in
     let b = bind_some (items_value true items) (λ (m : List ℕ). Some (a.0 ++ m)) text a.2 in
-    subst (λ (l : List ℕ). all_iri l) (same_Some (a.0 ++ b.0) text b.2) (all_append a.0 b.0 (item_iri item a.0 h.0 a.1) (items_iri items b.0 h.1 b.1))
+    subst (λ (l : List ℕ). all_iri l) (same_Some (a.0 ++ b.0) text b.2) (all_joined is_iri_byte a.0 b.0 (item_iri item a.0 h.0 a.1) (items_iri items b.0 h.1 b.1))
 
 pub text_iri : (bytes text : List ℕ) → MeansText true bytes text → list_all is_iri_byte text ≡ true
 text_iri bytes text m = items_iri m.0 text m.1 m.3

@@ -2,18 +2,12 @@
 use Rattle.std.proofs.Common.{ℕ, zero, suc, ◌≡◌, ◌+◌, ◌<◌, ◌≤◌, List, [], ◌∷◌, ◌++◌, length, take, drop, get_or, refl, sym, subst, arith, length-append}
 use Rattle.std.specs.Str.{IsUtf8, IsAscii}
 use Rattle.std.proofs.lemmas.List.{take_at, drop_at}
+use Rattle.list_laws.proofs.Lists.{behind_mark}
 use Rattle.std.proofs.lemmas.Str.{IsUtf8-take, IsUtf8-drop, IsCharBoundary-before_ascii, IsCharBoundary-after_ascii, IsCharBoundary-from_take, IsUtf8-from_ascii}
 
 at_end : (xs ys : List ℕ) (b : ℕ) → get_or (xs ++ b ∷ ys) (length xs) 0 ≡ b
 at_end [] ys b = refl
 at_end (x ∷ xs) ys b = at_end xs ys b
-
-after_one : (xs ys : List ℕ) (b : ℕ) → drop (length xs + 1) (xs ++ b ∷ ys) ≡ ys
-after_one xs ys b = let more : suc (length xs) ≡ length xs + 1 = omega arith in subst (λ (k : ℕ). drop k (xs ++ b ∷ ys) ≡ ys) more (behind xs)
-  where
-    behind : (xs : List ℕ) → drop (suc (length xs)) (xs ++ b ∷ ys) ≡ ys
-    behind [] = refl
-    behind (x ∷ xs) = behind xs
 
 within : (xs ys : List ℕ) (b : ℕ) → length xs < length (xs ++ b ∷ ys)
 within xs ys b = omega (arith, length-append xs (b ∷ ys))
@@ -27,7 +21,7 @@ before_ascii xs ys b h u =
 pub after_ascii : (xs ys : List ℕ) (b : ℕ) → b < 128 → IsUtf8 (xs ++ b ∷ ys) → IsUtf8 ys
 after_ascii xs ys b h u =
     let low : get_or (xs ++ b ∷ ys) (length xs) 0 < 128 = subst (λ (k : ℕ). k < 128) (sym (at_end xs ys b)) h in
-    subst (λ (l : List ℕ). IsUtf8 l) (after_one xs ys b) (IsUtf8-drop (xs ++ b ∷ ys) (length xs + 1) u (IsCharBoundary-after_ascii (xs ++ b ∷ ys) (length xs) u (within xs ys b) low))
+    subst (λ (l : List ℕ). IsUtf8 l) (behind_mark xs ys b) (IsUtf8-drop (xs ++ b ∷ ys) (length xs + 1) u (IsCharBoundary-after_ascii (xs ++ b ∷ ys) (length xs) u (within xs ys b) low))
 
 -- what follows a text
 pub after_text : (xs ys : List ℕ) → IsUtf8 xs → IsUtf8 (xs ++ ys) → IsUtf8 ys
