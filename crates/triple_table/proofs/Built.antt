@@ -10,6 +10,7 @@ use Rattle.std.proofs.lemmas.Map.Keys.{IsDistinct-IsPermutation}
 use Rattle.std.proofs.lemmas.List.{length-map}
 use Rattle.std.proofs.lemmas.List.Elements.{All-from_recursion, All-get_or, recursion_from_All, All-map, All-weaker, All-contains, Contains-get_or}
 use Rattle.std.proofs.lemmas.List.Sorted.{All-permutation, Contains-permutation, IsPermutation-sym, length_permutation}
+use Rattle.list_laws.proofs.Tests.{is_less, is_greater}
 use Rattle.list_laws.proofs.Ascending.{greater_not_equal, is_equal, less_not_equal, strict_from, strict_on, then_equal}
 use Rattle.list_laws.proofs.Members.{Contains-map, at_head, from_flat_map, from_map, in_flat_map, in_tail}
 use Rattle.rdf_terms.specs.declared.term.Term.{Term}
@@ -24,7 +25,7 @@ use Rattle.triple_table.specs.declared.ids.Order.TheVariants.{Spo, Pos, Osp}
 use Rattle.triple_table.specs.Rows.{key, row_order, row_of, id_triple_of}
 use Rattle.triple_table.specs.Served.{terms_in, terms_of}
 use Rattle.triple_table.specs.Stored.{Stored, IsStored, IsOrdered, IsRanking, IsIdTriple, triple_at, triples_in, rows_in}
-use Rattle.triple_table.proofs.Bounds.{cmp_less, cmp_greater, key_cmp, three_ways, IsSmall}
+use Rattle.triple_table.proofs.Bounds.{key_cmp, three_ways, IsSmall}
 use Rattle.triple_table.proofs.Ranges.{back_there}
 use Rattle.triple_table.proofs.Ranks.{rows_cmp}
 use Rattle.triple_table.proofs.RowOrder.{row_total}
@@ -33,7 +34,7 @@ use Rattle.triple_table.proofs.RowOrder.{row_total}
 
 number_same : (x y : ℕ) → nat_cmp x y ≡ Equal → x ≡ y
 number_same x y h =
-    ⊎_elim (λ l. absurd (less_not_equal (sym (cmp_less x y l) ∙ h))) (λ r. ⊎_elim (λ e. e) (λ l. absurd (greater_not_equal (sym (cmp_greater x y l) ∙ h))) r) (three_ways x y)
+    ⊎_elim (λ l. absurd (less_not_equal (sym (is_less x y l) ∙ h))) (λ r. ⊎_elim (λ e. e) (λ l. absurd (greater_not_equal (sym (is_greater x y l) ∙ h))) r) (three_ways x y)
 
 pub same_row : (r q : Row) → row_order r q ≡ Equal → r ≡ q
 same_row r q h =

@@ -1,21 +1,22 @@
 -- The IRI of a blank node is an IRI.
-use Rattle.std.proofs.Common.{ℕ, ◌≡◌, ◌+◌, ◌^◌, ◌/◌, ◌%◌, ◌<◌, ◌≤◌, Bool, true, false, cond, List, [], ◌∷◌, ◌++◌, refl, sym, ◌∙◌, subst, ltb, ⊎_elim, length, arith}
+use Rattle.std.proofs.Common.{ℕ, ◌≡◌, ◌+◌, ◌^◌, ◌/◌, ◌%◌, ◌<◌, ◌≤◌, Bool, true, false, cond, List, [], ◌∷◌, ◌++◌, refl, sym, ◌∙◌, subst, ltb, length, arith}
 use Rattle.std.specs.Prelude.{nat_le, ◌&&◌, ◌||◌, ◌==◌, not, codes, if◌then◌else◌}
 use Rattle.std.specs.List.{list_all}
 use Rattle.std.specs.Str.{chars, IsUtf8, str_to_ascii_lowercase}
-use Rattle.std.specs.Int.{is_in_range}
 use Rattle.std.specs.Fmt.{decimal}
-use Rattle.std.specs.Char.{is_ascii_alphanumeric, to_ascii_lowercase, digit_value}
+use Rattle.std.specs.Char.{to_ascii_lowercase, digit_value}
 use Rattle.std.specs.Str.Parse.{AllDigits}
 use Rattle.std.proofs.lemmas.List.Folds.{list_all-append, list_all-map}
 use Rattle.std.proofs.lemmas.Fmt.{decimal_is_IsNumeral}
 use Rattle.std.proofs.lemmas.Str.{encodes-chars}
-use Rattle.std.proofs.lemmas.Bool.{and_from, and_parts, or_cases}
+use Rattle.std.proofs.lemmas.Bool.{and_from, and_parts}
 use lib.Utf8.{encode, encodes}
 use Rattle.list_laws.proofs.Tests.{all_below, from_all_below, implied}
 use Rattle.rdf_terms.specs.Iri.{is_iri, is_iri_byte, has_scheme}
 use Rattle.rdf_terms.specs.Label.{is_label, is_label_char, are_label_chars}
+use Rattle.rdf_terms.proofs.Iris.{high_byte}
 use Rattle.tpf_base.specs.Addresses.{IsAuthority, is_host, is_host_byte, is_port}
+use Rattle.tpf_base.proofs.AddressBytes.{host_below}
 use Rattle.triple_table.specs.Genid.{genid}
 
 -- a test that is weaker at each element
@@ -23,33 +24,12 @@ all_weaker : (p q : ℕ → Bool) → ((b : ℕ) → p b ≡ true → q b ≡ tr
 all_weaker p q w [] e = refl
 all_weaker p q w (b ∷ bs) e = let parts = and_parts (p b) (list_all p bs) e in and_from (q b) (list_all q bs) (w b parts.0) (all_weaker p q w bs parts.1)
 
-high_byte : (b : ℕ) → 128 ≤ b → is_iri_byte b ≡ true
-high_byte b h = grind (arith, h)
-
-range_low : (low high b : ℕ) → high < 128 → is_in_range low high b ≡ true → b < 128
-range_low low high b l h = grind (arith, h)
-
-alphanumeric_low : (b : ℕ) → is_ascii_alphanumeric b ≡ true → b < 128
-alphanumeric_low b h =
-    ⊎_elim
-    (λ h. ⊎_elim (range_low 48 57 b (omega arith)) (range_low 65 90 b (omega arith)) (or_cases (is_in_range 48 57 b) (is_in_range 65 90 b) h))
-    (range_low 97 122 b (omega arith)) (or_cases (is_in_range 48 57 b || is_in_range 65 90 b) (is_in_range 97 122 b) h)
-
-is_low : (k b : ℕ) → k < 128 → (b == k) ≡ true → b < 128
-is_low k b l h = grind (arith, h)
-
-host_low : (b : ℕ) → is_host_byte b ≡ true → b < 128
-host_low b h =
-    ⊎_elim
-    (λ h. ⊎_elim (alphanumeric_low b) (is_low 45 b (omega arith)) (or_cases (is_ascii_alphanumeric b) (b == 45) h))
-    (is_low 46 b (omega arith)) (or_cases (is_ascii_alphanumeric b || (b == 45)) (b == 46) h)
-
 low_of : (c : ℕ) → ltb c 128 ≡ true → c < 128
 low_of c h = grind (arith, h)
 
 host_byte : (b : ℕ) → is_host_byte b ≡ true → is_iri_byte (to_ascii_lowercase b) ≡ true
 unfolding all_below
-host_byte b h = implied _ _ (from_all_below 128 (λ b. not (is_host_byte b) || is_iri_byte (to_ascii_lowercase b)) refl b (host_low b h)) h
+host_byte b h = implied _ _ (from_all_below 128 (λ b. not (is_host_byte b) || is_iri_byte (to_ascii_lowercase b)) refl b (host_below b h)) h
 
 digit_byte : (b : ℕ) → digit_value b < 10 → is_iri_byte b ≡ true
 digit_byte b h = grind (arith, h)
@@ -96,7 +76,7 @@ authority_bytes b host port h p = by b
     lower = list_all-map is_iri_byte to_ascii_lowercase host ∙ all_weaker is_host_byte (λ b. is_iri_byte (to_ascii_lowercase b)) host_byte host (and_parts (nat_le 1 (length host) && nat_le (length host) 255) (list_all is_host_byte host) h).1
 
     small : port < 2 ^ 64
-    small = grind (arith, p)
+    small = let high : nat_le port 65535 ≡ true = (and_parts (nat_le 1 port) (nat_le port 65535) p).1 in grind (arith, high)
 
     by : (b : Bool) → list_all is_iri_byte (if b then str_to_ascii_lowercase host else (str_to_ascii_lowercase host ++ codes ":" ++ decimal port)) ≡ true
     by true = lower

@@ -12,7 +12,7 @@ use Rattle.std.proofs.lemmas.Cmp.{nat_list_cmp_total, on_total}
 use Rattle.list_laws.proofs.Ascending.{ascending_map}
 use Rattle.list_laws.proofs.Members.{Contains-filter_map, Contains-map, deduped_ascends, from_deduped, from_filter_map, from_map, in_deduped}
 use Rattle.rdf_terms.specs.Order.{bytes_order}
-use Rattle.triple_table.proofs.Bytes.{bytes_eq_same}
+use Rattle.list_laws.proofs.Bytes.{same_is}
 use Rattle.rdf_terms.specs.declared.term.Term.{Term}
 use Rattle.rdf_terms.specs.declared.term.Term.TheVariants.{Iri, Blank, Literal}
 use Rattle.triple_table.specs.Labels.{texts, label_of}
@@ -43,7 +43,7 @@ module _ (terms : List Term) (xs ys zs : List (Bor (List ℕ))) (labels : texts 
       let in_labels : Contains (texts xs) label = subst (λ l. Contains l label) (sym labels) (Contains-filter_map label_of terms (Blank label) label h refl) in
       let found = from_map (λ (t : Bor (List ℕ)). t.now) xs label in_labels in
       let left = in_deduped total (λ x y. texts_ties x.now y.now) xs ys zs moved kept found.0 found.1 in
-      let same : (left.1).now ≡ label = sym (bytes_eq_same (found.0).now (left.1).now left.4) ∙ found.2 in
+      let same : (left.1).now ≡ label = sym (same_is (found.0).now (left.1).now left.4) ∙ found.2 in
       subst (λ l. Contains (texts zs) l) same (Contains-map (λ (t : Bor (List ℕ)). t.now) zs left.1 (left.0, left.2, left.3))
 
   pub labels_are : (label : List ℕ) → Contains (texts zs) label ↔ Contains terms (Blank label)

@@ -5,7 +5,6 @@ pub mod FirstClash
 pub mod Searched
 pub mod LabelMembers
 pub mod Clashes
-pub mod Bytes
 pub mod ServedData
 pub mod Narrowing
 pub mod RowOrder

@@ -2,14 +2,12 @@
 use Rattle.std.proofs.Common.{ℕ, ◌≡◌, ◌≢◌, List, [], ◌∷◌, ◌++◌, Option, Some, None, sym, ap, ◌∙◌, append_assoc}
 use Rattle.std.specs.Prelude.{MatchOption, codes}
 use Rattle.std.specs.Borrow.{Bor}
+use Rattle.list_laws.proofs.Lists.{tails}
 use Rattle.triple_table.specs.Genid.{genid}
-
-tail_same : (x y : ℕ) (xs ys : List ℕ) → x ∷ xs ≡ y ∷ ys → xs ≡ ys
-tail_same x y xs ys e = cc
 
 pub same_rest : (front xs ys : List ℕ) → front ++ xs ≡ front ++ ys → xs ≡ ys
 same_rest [] xs ys e = e
-same_rest (b ∷ front) xs ys e = same_rest front xs ys (tail_same b b _ _ e)
+same_rest (b ∷ front) xs ys e = same_rest front xs ys (tails b b _ _ e)
 
 -- the IRI by its parts, one behind the other
 pub genid_parts : (authority label : List ℕ) → genid authority label ≡ codes "http://" ++ (authority ++ (codes "/.well-known/genid/" ++ label))

@@ -4,6 +4,7 @@ use Rattle.std.specs.List.Sorted.{IsStrictlySortedBy}
 use Rattle.std.specs.declared.cmp.Ordering.{Ordering}
 use Rattle.std.specs.Ordering.{nat_cmp, ordering_reverse}
 use Rattle.std.proofs.lemmas.Cmp.{tied_itself}
+use Rattle.list_laws.proofs.Tests.{is_less, is_greater}
 use Rattle.list_laws.proofs.Ascending.{apart, pair_less}
 use Rattle.rdf_terms.specs.declared.term.Term.{Term}
 use Rattle.rdf_terms.specs.declared.term.Term.TheVariants.{Iri}
@@ -16,13 +17,13 @@ use Rattle.triple_table.specs.declared.ids.Order.{Order}
 use Rattle.triple_table.specs.declared.ids.Order.TheVariants.{Spo, Pos, Osp}
 use Rattle.triple_table.specs.Rows.{row_order, id_triple_of, order_by}
 use Rattle.triple_table.specs.Stored.{term_at, triple_at, IsIdTriple, slot_at}
-use Rattle.triple_table.proofs.Bounds.{cmp_less, cmp_equal, cmp_greater, three_ways}
+use Rattle.triple_table.proofs.Bounds.{cmp_equal, three_ways}
 
 pub rank_cmp : (terms : List Term) → IsStrictlySortedBy term_order terms → (a b : ℕ) → a < length terms → b < length terms → term_order (term_at terms a) (term_at terms b) ≡ nat_cmp a b
 rank_cmp terms s a b l m =
-    ⊎_elim (λ i. pair_less term_order terms s a b (Iri []) (Iri []) i m ∙ sym (cmp_less a b i))
+    ⊎_elim (λ i. pair_less term_order terms s a b (Iri []) (Iri []) i m ∙ sym (is_less a b i))
     (λ r. ⊎_elim (λ e. subst (λ k. term_order (term_at terms a) (term_at terms k) ≡ nat_cmp a k) e (tied_itself term_total (term_at terms a) ∙ sym (cmp_equal a a refl)))
-    (λ i. term_total.antisymm (term_at terms a) (term_at terms b) ∙ ap ordering_reverse (pair_less term_order terms s b a (Iri []) (Iri []) i l) ∙ sym (cmp_greater a b i)) r)
+    (λ i. term_total.antisymm (term_at terms a) (term_at terms b) ∙ ap ordering_reverse (pair_less term_order terms s b a (Iri []) (Iri []) i l) ∙ sym (is_greater a b i)) r)
     (three_ways a b)
 
 pub same_rank : (terms : List Term) → IsStrictlySortedBy term_order terms → (a b : ℕ) → a < length terms → b < length terms → term_at terms a ≡ term_at terms b → a ≡ b

@@ -13,21 +13,19 @@ use Rattle.std.proofs.lemmas.List.Sorted.{searchable_from_sorted}
 use Rattle.list_laws.proofs.Ascending.{apart, greater_not_equal, less_not_equal, pair_less, sorted_keys}
 use Rattle.list_laws.proofs.Members.{contains_one, one_of}
 use Rattle.rdf_terms.specs.Order.{bytes_order}
-use Rattle.triple_table.proofs.Bytes.{bytes_same}
+use Rattle.rdf_terms.specs.EqualityLaws.{same_iri}
+use Rattle.rdf_terms.proofs.Equality.{equal as bytes_same}
 use Rattle.rdf_terms.specs.declared.term.Term.TheVariants.{Iri}
 use Rattle.triple_table.specs.Genid.{genid}
 use Rattle.triple_table.specs.Labels.{IsFirstClash, texts}
 use Rattle.triple_table.proofs.Parts.{genid_same}
-
-iri_same : (a b : List ℕ) → Iri a ≡ Iri b → a ≡ b
-iri_same a b e = cc
 
 pub clash_at : (authority : List ℕ) (labels : List (List ℕ)) (text label : List ℕ) (place : ℕ) → IsStrictlySortedBy bytes_order labels →
     text ≡ genid authority label → place < length labels → slice_index_or labels place [] ≡ label → IsFirstClash authority labels (Iri text ∷ []) place
 clash_at authority labels text label place s e l at = record {
   within = omega (arith, l);
   found = λ _. contains_one _ _ (ap (λ t. Iri t) (e ∙ ap (genid authority) (sym at)));
-  before = λ k m h. apart nat_list_cmp_total labels s k place [] [] m l (sym (genid_same authority label (slice_index_or labels k []) (sym e ∙ iri_same _ _ (one_of _ _ h))) ∙ sym at);
+  before = λ k m h. apart nat_list_cmp_total labels s k place [] [] m l (sym (genid_same authority label (slice_index_or labels k []) (sym e ∙ same_iri _ _ (one_of _ _ h))) ∙ sym at);
 }
 
 pub no_clash : (authority : List ℕ) (labels : List (List ℕ)) (text label : List ℕ) → text ≡ genid authority label →
@@ -35,7 +33,7 @@ pub no_clash : (authority : List ℕ) (labels : List (List ℕ)) (text label : L
 no_clash authority labels text label e none = record {
   within = omega arith;
   found = λ l. absurd (omega arith);
-  before = λ k m h. none k m (sym (genid_same authority label (slice_index_or labels k []) (sym e ∙ iri_same _ _ (one_of _ _ h))));
+  before = λ k m h. none k m (sym (genid_same authority label (slice_index_or labels k []) (sym e ∙ same_iri _ _ (one_of _ _ h))));
 }
 
 module _ (borrowed : List (Bor (List ℕ))) (s : IsStrictlySortedBy bytes_order (texts borrowed)) (d : Bor (List ℕ)) (key : List ℕ) where
