@@ -1,16 +1,17 @@
 -- The generated data have no blank node, and few triples.
-use Rattle.std.proofs.Common.{◌≡◌, ℕ, zero, suc, ◌+◌, ◌*◌, ◌%◌, ◌<◌, ◌≤◌, ◌==◌, ◌⊎◌, inl, inr, Bool, true, false, List, [], ◌∷◌, ◌++◌, length, map, refl, sym, ap, subst, if◌then◌else◌, ◌∙◌, arith, length-append}
+use Rattle.std.proofs.Common.{◌≡◌, ℕ, zero, suc, ◌+◌, ◌*◌, ◌%◌, ◌<◌, ◌≤◌, ◌==◌, ◌⊎◌, inl, inr, Bool, true, false, List, [], ◌∷◌, ◌++◌, length, map, refl, sym, ap, subst, if◌then◌else◌, ◌∙◌, arith, lit≤, length-append}
 use Rattle.std.specs.Bool.{Decides}
 use Rattle.std.specs.Ordering.{eq_by_cmp, is_eq}
 use Rattle.std.specs.List.{Contains, AllByRecursion, filter, flat_map, range_with_len}
 use Rattle.std.proofs.lemmas.Cmp.{eq_by_cmp_equiv}
 use Rattle.std.proofs.lemmas.List.{length-map}
-use Rattle.std.proofs.lemmas.List.Sums.{length-filter, count_by-le-length}
 use Rattle.std.proofs.lemmas.Map.Keys.{IsDistinct-from_sorted}
 use Rattle.std.proofs.lemmas.Map.Made.{length-le_from_is_member, is_member-Decides}
 use Rattle.list_laws.proofs.Ascending.{is_equal}
+use Rattle.list_laws.proofs.Lists.{filter_length}
 use Rattle.list_laws.proofs.Members.{head_or_tail, none_in, from_map, from_filter, from_flat_map}
 use Rattle.list_laws.proofs.Told.{all_in}
+use Rattle.rdf_terms.specs.declared.limits.TheConstants.{MOST_TRIPLES}
 use Rattle.rdf_terms.specs.declared.term.Quad.{Quad}
 use Rattle.rdf_terms.specs.declared.term.Term.{Term}
 use Rattle.rdf_terms.specs.declared.term.Term.TheVariants.{Blank}
@@ -89,14 +90,11 @@ generated_few : (n : ℕ) → length (generated n) ≤ 3 * n
 unfolding generated
 generated_few n = all_few n 0 n
 
-filter_few : (p : Quad → Bool) (qs : List Quad) → length (filter p qs) ≤ length qs
-filter_few p qs = omega (arith, length-filter p qs, count_by-le-length p qs)
-
 pub chosen_few : (n : ℕ) → length (chosen DefaultGraph (generated n)) ≤ 3 * n
 chosen_few n = omega (
   arith,
   generated_few n,
-  filter_few (λ (q : Quad). is_chosen DefaultGraph q.graph) (generated n),
+  filter_length (λ (q : Quad). is_chosen DefaultGraph q.graph) (generated n),
   length-map (filter (λ (q : Quad). is_chosen DefaultGraph q.graph) (generated n)) (λ (q : Quad). q.triple),
 )
 
@@ -110,15 +108,18 @@ served_few authority triples served s =
     (is_member-Decides triple_decided (map (skolem_triple authority) triples) q).1 ((s.members q).0 ((is_member-Decides triple_decided served q).0 m))) in
     let e = length-map triples (skolem_triple authority) in omega (arith, some, e)
 
-pub not_too_many : (authority : List ℕ) (n : ℕ) → n ≤ 1000000 → PassesMost 16777215 authority (chosen DefaultGraph (generated n)) → ⊥
+pub not_too_many : (authority : List ℕ) (n : ℕ) → n ≤ 1000000 → PassesMost MOST_TRIPLES authority (chosen DefaultGraph (generated n)) → ⊥
 not_too_many authority n most p = over p.passes
   where
     few : length p.triples ≤ 3 * n
     few = omega (arith, served_few authority (chosen DefaultGraph (generated n)) p.triples p.served, chosen_few n)
 
-    over : (16777215 < length p.triples) ⊎ (16777215 < length p.terms) → ⊥
-    over (inl h) = omega (arith, h, few, most)
-    over (inr h) = omega (arith, h, few, most, terms_few p.triples p.terms p.ranking)
+    room : 9000000 ≤ MOST_TRIPLES
+    room = lit≤ tt
+
+    over : (MOST_TRIPLES < length p.triples) ⊎ (MOST_TRIPLES < length p.terms) → ⊥
+    over (inl h) = omega (arith, room, h, few, most)
+    over (inr h) = omega (arith, room, h, few, most, terms_few p.triples p.terms p.ranking)
 
 -- ---- quads that are the generated ones
 
@@ -129,5 +130,5 @@ module _ (authority : List ℕ) (n : ℕ) (quads : List Quad) (are : quads ≡ g
   pub no_clash_of : (label : List ℕ) → IsLeastClash authority (chosen DefaultGraph quads) label → ⊥
   no_clash_of label h = no_clash authority n label (subst (λ (qs : List Quad). Clashes authority (chosen DefaultGraph qs) label) are h.clashes)
 
-  pub not_too_many_of : n ≤ 1000000 → PassesMost 16777215 authority (chosen DefaultGraph quads) → ⊥
-  not_too_many_of most p = not_too_many authority n most (subst (λ (qs : List Quad). PassesMost 16777215 authority (chosen DefaultGraph qs)) are p)
+  pub not_too_many_of : n ≤ 1000000 → PassesMost MOST_TRIPLES authority (chosen DefaultGraph quads) → ⊥
+  not_too_many_of most p = not_too_many authority n most (subst (λ (qs : List Quad). PassesMost MOST_TRIPLES authority (chosen DefaultGraph qs)) are p)

@@ -1,6 +1,7 @@
 -- The server of generated data.
 use Rattle.std.specs.Prelude.{ℕ, ◌≡◌, ◌≤◌, List, length}
 use Rattle.std.specs.List.{Contains}
+use Rattle.rdf_terms.specs.declared.limits.TheConstants.{LONGEST_TERM}
 use Rattle.rdf_terms.specs.declared.term.Term.{Term}
 use Rattle.rdf_terms.specs.Canon.{canonical_term}
 use Rattle.rdf_terms.specs.declared.term.Triple.{Triple}
@@ -18,9 +19,9 @@ pub record StartsGenerated (persons : ℕ) (config : Config) (server : Serving (
   pub version : server.version ≡ 1
   pub data_set : IsServed (authority_of config.base) (chosen DefaultGraph (generated persons)) server.data_set
 
--- each term has a canonical text of at most 262144 bytes, and there are at most 3000000 triples
+-- each term has a canonical text of at most LONGEST_TERM bytes, and there are at most 3000000 triples
 pub record AreSmall (triples : List Triple) : Type 0 where
-  pub terms : (term : Term) → Contains (terms_of triples) term → length (canonical_term term) ≤ 262144
+  pub terms : (term : Term) → Contains (terms_of triples) term → length (canonical_term term) ≤ LONGEST_TERM
   pub few : length triples ≤ 3000000
 
 -- the law: so it is of the data of at most 1000000 persons, under each authority
