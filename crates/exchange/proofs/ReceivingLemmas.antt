@@ -1,5 +1,5 @@
 -- Receives on a link, one after another.
-use Rattle.std.proofs.Common.{false, ℕ, ◌≡◌, ◌+◌, ◌<◌, ◌≤◌, ◌⊎◌, inl, inr, ◌++◌, List, [], length, take, Option, Some, true, refl, sym, ◌∙◌, ap, arith, append_assoc, append-nil, length-append, length-take-le}
+use Rattle.std.proofs.Common.{false, ℕ, ◌≡◌, ◌+◌, ◌<◌, ◌≤◌, inl, inr, ◌++◌, List, [], length, take, Option, Some, true, refl, sym, ◌∙◌, ap, arith, append_assoc, append-nil, length-append, length-take-le}
 use Rattle.tpf_base.specs.Causes.{Rose}
 use Rattle.tpf_base.specs.declared.wire.Moved.{Moved}
 use Rattle.tpf_base.specs.declared.wire.Moved.TheVariants as answers

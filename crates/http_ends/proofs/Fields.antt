@@ -1,5 +1,5 @@
 -- The bytes of authorities and targets.
-use Rattle.std.proofs.Common.{◌≡◌, ℕ, ◌<◌, Bool, true, false, not, ◌==◌, List, [], ◌∷◌, ◌++◌, length, refl, ap, if◌then◌else◌, ◌∙◌, arith, inl, inr, Option, Some, None, cond}
+use Rattle.std.proofs.Common.{◌≡◌, ℕ, ◌<◌, Bool, true, false, not, ◌==◌, List, [], ◌∷◌, ◌++◌, length, refl, ap, if◌then◌else◌, ◌∙◌, arith, Option, cond}
 use Rattle.std.specs.Prelude.{◌&&◌, ◌^◌, codes, decimal, nat_lt, nat_le, IsUtf8}
 use Rattle.std.specs.Char.{is_ascii, is_ascii_digit}
 use Rattle.std.specs.List.{list_all}
@@ -8,7 +8,8 @@ use Rattle.std.proofs.lemmas.Bool.{and_parts, and_from}
 use Rattle.std.proofs.lemmas.List.Folds.{list_all-append}
 use Rattle.std.proofs.lemmas.List.Elements.{All-nil, All-cons}
 use Rattle.httparse.specs.Grammar.{AllPass, is_value_byte, is_uri_byte}
-use Rattle.tpf_base.specs.Addresses.{Address, IsAddress, IsPortTyped, is_host, is_host_byte, is_address_byte, is_path_byte, is_path, is_query_part, query_text, authority_text, authority_of, target_of}
+use Rattle.tpf_base.proofs.AddressBytes.{address_bytes, port_below, query_bytes}
+use Rattle.tpf_base.specs.Addresses.{Address, IsAddress, is_host, is_host_byte, is_address_byte, is_path_byte, is_path, is_query_part, query_text, authority_text, authority_of, target_of}
 use Rattle.tpf_base.specs.HttpHeads.{are_visible}
 use Rattle.template_fill.proofs.Addresses.{IsRooted, authority-port, all_host, is_host-lower, all_digits-decimal, utf8-ascii}
 use Rattle.template_fill.proofs.Passing.{list_all-wider}
@@ -38,14 +39,11 @@ ascii_byte b h = grind (arith, nat_tests)
 host_byte : (b : ℕ) → is_host_byte b ≡ true → is_seen b ≡ true
 host_byte b h = grind (arith, nat_tests)
 
-digit_byte : (b : ℕ) → is_ascii_digit b ≡ true → is_seen b ≡ true
-digit_byte b h = grind (arith, nat_tests)
+pub seen_digit : (b : ℕ) → is_ascii_digit b ≡ true → is_seen b ≡ true
+seen_digit b h = grind (arith, nat_tests)
 
 address_byte : (b : ℕ) → is_address_byte b ≡ true → is_seen b ≡ true
 address_byte b h = (and_parts (nat_lt 32 b && nat_lt b 127) _ h).0
-
-path_byte : (b : ℕ) → is_path_byte b ≡ true → is_address_byte b ≡ true
-path_byte b h = (and_parts (is_address_byte b) _ h).0
 
 visible_byte : (b : ℕ) → is_address_byte b ≡ true → (nat_le 33 b && (nat_le b 126 && not (b == 35))) ≡ true
 visible_byte b h = grind (arith, nat_tests)
@@ -63,13 +61,9 @@ pub text : (bs : List ℕ) → list_all is_seen bs ≡ true → IsUtf8 bs
 text bs all = utf8-ascii bs (list_all-wider is_seen is_ascii ascii_byte bs all)
 
 pub seen_digits : (n : ℕ) → n < 2 ^ 64 → list_all is_seen (decimal n) ≡ true
-seen_digits n small = list_all-wider is_ascii_digit is_seen digit_byte (decimal n) (all_digits-decimal n small)
+seen_digits n small = list_all-wider is_ascii_digit is_seen seen_digit (decimal n) (all_digits-decimal n small)
 
 -- ---- of an address
-
-port_below : (typed : List ℕ) (port : ℕ) → IsPortTyped typed port → port < 65536
-port_below typed port (inl (none, is)) = omega (arith, is)
-port_below typed port (inr (some, is)) = grind (arith, nat_tests)
 
 seen_port : (port : ℕ) → port < 65536 → list_all is_seen (port_text port) ≡ true
 seen_port port high = elim (port == 80) as (λ v. list_all is_seen (cond v [] (codes ":" ++ decimal port)) ≡ true) [
@@ -87,10 +81,6 @@ authority_seen bytes address is =
     let host : is_host address.host ≡ true = ap is_host is.host_kept ∙ is_host-lower is.typed_host is.host in
     seen_authority address.host address.port host (port_below is.typed_port address.port is.port)
 
-query_bytes : (query : Option (List ℕ)) → is_query_part query ≡ true → list_all is_address_byte (query_text query) ≡ true
-query_bytes None is = refl
-query_bytes (Some query) is = is
-
 target_parts : (typed path : List ℕ) (query : Option (List ℕ)) → is_path typed ≡ true → path ≡ (if length typed == 0 then codes "/" else typed) → is_query_part query ≡ true
     → IsRooted (path ++ query_text query)
 target_parts [] path query h is own =
@@ -103,7 +93,7 @@ target_parts (b ∷ rest) path query h is own =
       after_slash = rest ++ query_text query;
       slash = ap (λ (p : List ℕ). p ++ query_text query) whole ∙ ap (λ (x : ℕ). x ∷ (rest ++ query_text query)) first;
       bytes = list_all-append is_address_byte rest (query_text query)
-          ∙ and_from (list_all is_address_byte rest) (list_all is_address_byte (query_text query)) (list_all-wider is_path_byte is_address_byte path_byte rest parts.1) (query_bytes query own);
+          ∙ and_from (list_all is_address_byte rest) (list_all is_address_byte (query_text query)) (address_bytes rest parts.1) (query_bytes query own);
     }
   where
     some : (b : ℕ) (rest : List ℕ) → (length (b ∷ rest) == 0) ≡ false

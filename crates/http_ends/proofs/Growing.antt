@@ -7,7 +7,9 @@ use Rattle.tpf_base.specs.HttpConnection.{Heads, heads_of, closes, unread_of, wi
 use Rattle.http_wire.proofs.ConnectionLemmas.{more_heads, left_of}
 use Rattle.tpf_base.specs.Marks.{Mark, Served}
 use Rattle.template_fill.specs.Responses.{Answering, answering, head_answer, answers, response_by, marks_at, FitsHead, IsVersion, IsRising, AreMarks, ResponseGoesOn, ResponseAtGoesOn, ResponseBegins}
-use Rattle.http_ends.proofs.Lists.{all_front, zip_front, zip_length, rising_front}
+use Rattle.list_laws.proofs.Each.{all_front}
+use Rattle.list_laws.proofs.Lists.{zip_length}
+use Rattle.http_ends.proofs.Lists.{zip_front, rising_front}
 
 -- ---- the response
 
@@ -76,7 +78,7 @@ longer_heads false heads unread more = ((heads_of (unread ++ more)).heads, refl)
 
 module _ (server : Answering) (heads rest : List Verdict) (all : List Mark) (is : AreMarks server (heads ++ rest) all) where
   first_same : length (take (length heads) all) ≡ length heads
-  first_same = taken (length heads) all (length (heads ++ rest)) (zip_length (FitsHead server) (heads ++ rest) all is.fits) within
+  first_same = taken (length heads) all (length (heads ++ rest)) (sym (zip_length (FitsHead server) (heads ++ rest) all is.fits)) within
     where
       within : length heads ≤ length (heads ++ rest)
       within = simp length-append (omega arith)

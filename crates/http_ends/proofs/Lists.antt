@@ -1,16 +1,9 @@
 -- What holds of each item of lists that are appended.
-use Rattle.std.proofs.Common.{◌≡◌, ◌≤◌, List, [], ◌∷◌, ◌++◌, length, refl, arith}
+use Rattle.std.proofs.Common.{◌≡◌, ◌≤◌, List, [], ◌∷◌, ◌++◌, length, arith}
 use Rattle.std.specs.List.{AllByRecursion, AllZip}
+use Rattle.list_laws.proofs.Each.{all_append, all_front}
 use Rattle.tpf_base.specs.Marks.{Mark, version_at}
 use Rattle.template_fill.specs.Responses.{IsRising}
-
-pub all_append : {A : Type 0} (P : A → Type 0) (xs ys : List A) → AllByRecursion P xs → AllByRecursion P ys → AllByRecursion P (xs ++ ys)
-all_append P [] ys a b = b
-all_append P (x ∷ xs) ys a b = (a.0, all_append P xs ys a.1 b)
-
-pub all_front : {A : Type 0} (P : A → Type 0) (xs ys : List A) → AllByRecursion P (xs ++ ys) → AllByRecursion P xs
-all_front P [] ys all = tt
-all_front P (x ∷ xs) ys all = (all.0, all_front P xs ys all.1)
 
 pub zip_append : {A B : Type 0} (R : A → B → Type 0) (xs zs : List A) (ys ws : List B) → AllZip R xs ys → AllZip R zs ws → AllZip R (xs ++ zs) (ys ++ ws)
 zip_append R [] zs [] ws a b = b
@@ -23,12 +16,6 @@ zip_front R [] zs [] ws same all = tt
 zip_front R [] zs (y ∷ ys) ws same all = absurd (omega arith)
 zip_front R (x ∷ xs) zs [] ws same all = absurd (omega arith)
 zip_front R (x ∷ xs) zs (y ∷ ys) ws same all = (all.0, zip_front R xs zs ys ws (omega arith) all.1)
-
-pub zip_length : {A B : Type 0} (R : A → B → Type 0) (xs : List A) (ys : List B) → AllZip R xs ys → length ys ≡ length xs
-zip_length R [] [] all = refl
-zip_length R [] (y ∷ ys) all = absurd all
-zip_length R (x ∷ xs) [] all = absurd all
-zip_length R (x ∷ xs) (y ∷ ys) all = let rest = zip_length R xs ys all.1 in omega arith
 
 -- ---- versions that never fall
 

@@ -6,7 +6,9 @@ use Rattle.tpf_base.specs.HttpConnection.{Heads, heads_of, closes, unread_of, wi
 use Rattle.http_wire.proofs.ConnectionLemmas.{more_heads}
 use Rattle.tpf_base.specs.Marks.{Mark, Served, Starved, version_at}
 use Rattle.template_fill.specs.Responses.{Answering, answering, answers, response_by, marks_at, asks_reload, FitsHead, IsVersion, IsRising, AreMarks, padding_mark, padding, reload_version, reload_versions, MarksAreJoined, MarksArePadded, OneVersionIsMarked}
-use Rattle.http_ends.proofs.Lists.{all_append, zip_append, zip_length, rising_append}
+use Rattle.list_laws.proofs.Each.{all_append}
+use Rattle.list_laws.proofs.Lists.{zip_length}
+use Rattle.http_ends.proofs.Lists.{zip_append, rising_append}
 use Rattle.http_ends.proofs.Growing.{answers_append}
 
 Between : List Mark → List Mark → Type 0
@@ -94,7 +96,7 @@ padded server bytes first later marks version is marked low high below = record 
   marked = subst (λ (heads : List Verdict). AreMarks server heads (marks ++ padding server version later)) (sym is)
       (marks_append server first later marks (padding server version later) marked (padding_marks server version low high later) (padding_behind server version marks below later));
   text = ap (λ (heads : List Verdict). answers server heads (marks ++ padding server version later)) is
-      ∙ answers_append server first later marks (padding server version later) (zip_length (FitsHead server) first marks marked.fits);
+      ∙ answers_append server first later marks (padding server version later) (sym (zip_length (FitsHead server) first marks marked.fits));
   reloads = ap (λ (heads : List Verdict). reload_versions server heads (marks ++ padding server version later)) is ∙ padded_reloads server version first later marks marked.fits;
 }
 

@@ -1,9 +1,10 @@
 -- The response to whole requests: by induction over the requests, with the law that the heads of bytes are the next and then those of what follows.
-use Rattle.std.proofs.Common.{append-nil, ◌≡◌, ℕ, suc, ◌+◌, ◌<◌, ◌≤◌, Bool, true, false, List, [], ◌∷◌, ◌++◌, length, take, drop, refl, sym, ap, ap₂, if◌then◌else◌, ◌∙◌, arith, append_assoc, length-append, inl, inr}
+use Rattle.std.proofs.Common.{append-nil, ◌≡◌, ℕ, ◌+◌, ◌<◌, ◌≤◌, Bool, true, false, List, [], ◌∷◌, ◌++◌, length, take, drop, refl, sym, ap, ap₂, if◌then◌else◌, ◌∙◌, arith, append_assoc, length-append, inl, inr}
 use Rattle.std.specs.Prelude.{◌⊎◌, slice_index}
-use Rattle.std.specs.List.{AllByRecursion, AllZip}
+use Rattle.std.specs.List.{AllByRecursion}
 use Rattle.std.proofs.lemmas.Bool.{cases_lt}
 use Rattle.std.proofs.lemmas.List.{drop_at, length-map, take-append-drop, length-take-le}
+use Rattle.list_laws.proofs.Lists.{zip_length}
 use Rattle.tpf_base.specs.HttpHeads.{Request, Verdict, Accepted, NextRequest, Taken, next_request}
 use Rattle.tpf_base.specs.HttpReply.{Whole, Bad, TooLong, BadStatus, BadMediaType, ReplyFault, reply_of}
 use Rattle.http_wire.proofs.StayLemmas.{taken_stays}
@@ -26,12 +27,6 @@ request_is_sent text address is fits = record {
 }
 
 -- ---- heads
-
-zip_length : {A B : Type 0} (R : A → B → Type 0) (xs : List A) (ys : List B) → AllZip R xs ys → length xs ≡ length ys
-zip_length R [] [] all = refl
-zip_length R [] (y ∷ ys) all = absurd all
-zip_length R (x ∷ xs) [] all = absurd all
-zip_length R (x ∷ xs) (y ∷ ys) all = ap (λ (n : ℕ). suc n) (zip_length R xs ys all.1)
 
 -- these heads come first
 abbrev pub behind : List Verdict → Heads → Heads

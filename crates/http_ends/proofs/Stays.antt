@@ -1,23 +1,9 @@
 -- A whole reading, or a refusal, stays with more bytes and at the end of them.
-use Rattle.std.proofs.Common.{◌≡◌, ℕ, Bool, true, false, List, [], ◌∷◌, ◌++◌, refl, sym, ap, ◌∙◌, Some}
+use Rattle.std.proofs.Common.{◌≡◌, ℕ, Bool, true, false, List, [], ◌∷◌, ◌++◌, refl, sym, ap, ◌∙◌}
 use Rattle.tpf_base.specs.HttpReply.{Place, InHeads, InSized, InUnsized, InLine, InChunk, AtReturn, AtNewline, InTrailer, Finished, Failed, begun, is_open, one_more, at_the_end, after_byte, after_bytes, reading_from, reply_of}
-use Rattle.http_wire.specs.declared.message.Reply.{Reply}
-use Rattle.http_wire.specs.Replies.{reply_at}
-use Rattle.http_wire.proofs.RunLemmas.{over_reading, open_reading, reading_stays}
+use Rattle.http_wire.proofs.RunLemmas.{given_is_closed, over_reading, open_reading, reading_stays}
 use Rattle.http_wire.proofs.GivenLemmas.{what_is_read}
 use Rattle.http_ends.specs.Answers.{ReadingsStay}
-
-closed_place : (place : Place) (reply : Reply) → reply_at place ≡ Some reply → is_open place ≡ false
-closed_place (InHeads passed head) reply is = absurd cc
-closed_place (InSized wanted g) reply is = absurd cc
-closed_place (InUnsized g) reply is = absurd cc
-closed_place (InLine line g) reply is = absurd cc
-closed_place (InChunk wanted g) reply is = absurd cc
-closed_place (AtReturn g) reply is = absurd cc
-closed_place (AtNewline g) reply is = absurd cc
-closed_place (InTrailer lines g) reply is = absurd cc
-closed_place (Finished g) reply is = refl
-closed_place (Failed fault) reply is = refl
 
 pub end_same : (place : Place) (at_end : Bool) → is_open place ≡ false → at_the_end at_end place ≡ at_the_end false place
 end_same (InHeads passed head) at_end over = refl
@@ -49,6 +35,6 @@ stays limit bytes more at_end over = reading_stays limit begun bytes more at_end
 pub readings_stay : ReadingsStay
 readings_stay limit bytes = record {
   whole = λ body n keeps is more at_end.
-      stays limit bytes more at_end (closed_place (after_bytes limit begun bytes) (record { body = body; keeps = keeps }) ((what_is_read limit begun bytes false).whole body n keeps is).1) ∙ is;
+      stays limit bytes more at_end (given_is_closed (after_bytes limit begun bytes) (record { body = body; keeps = keeps }) ((what_is_read limit begun bytes false).whole body n keeps is).1) ∙ is;
   bad = λ fault is more at_end. stays limit bytes more at_end (ap is_open ((what_is_read limit begun bytes false).bad fault is)) ∙ is;
 }

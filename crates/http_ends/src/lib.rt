@@ -21,9 +21,9 @@ ghost use Rattle.http_ends.specs.Cuts.{NextAnswerIsCut, PartsAreNotOwed, Replies
 ghost use Rattle.http_ends.specs.Requests.{AddressesArePlain, PartsHaveNone, PiecesAreRequests, RequestIsRead, RequestsAreCut, RequestsDiffer};
 ghost use Rattle.template_fill.specs.Responses.{LongerHistoriesAgree, MarksAreJoined, MarksArePadded, OneVersionIsMarked, ResponseAtGoesOn, ResponseBegins, ResponseGoesOn};
 
-/// The request for an address of at most 4194304 bytes is read as the GET of its target, which does
-/// not close, and of exactly its length, whatever follows it; a proper prefix of it is no request
-/// yet. It ends at its only empty line (RFC 9112, sections 2.2 and 3).
+/// The request for an address, where it has at most `HEAD_LIMIT` bytes (`tpf_base`), is read as the
+/// GET of its target, which does not close, and of exactly its length, whatever follows it; a proper
+/// prefix of it is no request yet. It ends at its only empty line (RFC 9112, sections 2.2 and 3).
 pub fn a_request_is_read()
     ensures { RequestIsRead }
 {}
