@@ -1,38 +1,18 @@
--- IRIs that go on, the datatype of numbers, and bytes that are written as they are.
-use Rattle.std.proofs.Common.{◌≡◌, ℕ, ◌<◌, List, [], ◌∷◌, ◌++◌, Bool, true, false, not, ◌==◌, ◌&&◌, ◌||◌, refl, sym, ap, ◌∙◌, arith}
+-- The datatype of numbers, and bytes that are written as they are.
+use Rattle.std.proofs.Common.{◌≡◌, ℕ, List, Bool, true, false, ◌==◌, refl, sym, ap, ◌∙◌}
 use Rattle.std.specs.List.{list_all}
 use Rattle.std.specs.Char.{is_ascii_digit}
-use Rattle.std.proofs.lemmas.List.Folds.{list_all-append}
-use Rattle.std.proofs.lemmas.Bool.{and_from, eqb-true, not_from_false, or_from, true≢false}
-use Rattle.std.proofs.lemmas.Bool.Decides.{nat_tests}
-use Rattle.list_laws.proofs.Tests.{all_below, from_all_below, implied, and_first, and_second}
+use Rattle.std.proofs.lemmas.Bool.{eqb-true, not_from_false, or_from, true≢false}
+use Rattle.rdf_terms.proofs.Iris.{digit_iri}
+use Rattle.list_laws.proofs.Tests.{and_first}
 use Rattle.tpf_base.specs.Decimals.{decimal_text}
 use Rattle.tpf_base.proofs.DecimalTexts.{decimal_text-digits}
-use Rattle.rdf_terms.specs.Iri.{is_iri, is_iri_byte, is_letter, is_scheme_byte, has_colon, has_scheme}
+use Rattle.rdf_terms.specs.Iri.{is_iri, is_iri_byte, has_scheme}
 use Rattle.rdf_terms.specs.Datatype.{is_datatype, xsd_string, lang_string}
 use Rattle.template_fill.specs.Metadata.{integer}
 use Rattle.template_fill.proofs.Passing.{list_all-wider}
 use Rattle.hydra_controls.specs.declared.term_text.TermKind.TheVariants as kinds
 use Rattle.hydra_controls.specs.TermTexts.{is_plain_byte, term_as, xsd_integer}
-
-goes_on : (colon ok more longer : Bool) → (more ≡ true → longer ≡ true) → colon || (ok && more) ≡ true → colon || (ok && longer) ≡ true
-goes_on true ok more longer step h = refl
-goes_on false ok more longer step h = and_from ok longer (and_first ok more h) (step (and_second ok more h))
-
-has_colon-append : (a b : List ℕ) → has_colon a ≡ true → has_colon (a ++ b) ≡ true
-has_colon-append [] b h = absurd (cc)
-has_colon-append (x ∷ a) b h = goes_on (x == 58) (is_scheme_byte x) (has_colon a) (has_colon (a ++ b)) (has_colon-append a b) h
-
-has_scheme-append : (a b : List ℕ) → has_scheme a ≡ true → has_scheme (a ++ b) ≡ true
-has_scheme-append [] b h = absurd (cc)
-has_scheme-append (x ∷ a) b h = and_from (is_letter x) (has_colon (a ++ b)) (and_first (is_letter x) (has_colon a) h) (has_colon-append a b (and_second (is_letter x) (has_colon a) h))
-
--- an IRI with more characters of one after it is an IRI
-pub is_iri-append : (a b : List ℕ) → is_iri a ≡ true → list_all is_iri_byte b ≡ true → is_iri (a ++ b) ≡ true
-is_iri-append a b h all =
-    let own = and_first (list_all is_iri_byte a) (has_scheme a) h in
-    let scheme = has_scheme-append a b (and_second (list_all is_iri_byte a) (has_scheme a) h) in
-    and_from (list_all is_iri_byte (a ++ b)) (has_scheme (a ++ b)) (rw (list_all-append is_iri_byte a b, own) all) scheme
 
 integer_is_datatype : is_datatype xsd_integer ≡ true
 unfolding xsd_string lang_string
@@ -64,17 +44,8 @@ iri_byte-plain b own =
 pub iri-plain : (text : List ℕ) → is_iri text ≡ true → list_all is_plain_byte text ≡ true
 iri-plain text own = list_all-wider is_iri_byte is_plain_byte iri_byte-plain text (and_first (list_all is_iri_byte text) (has_scheme text) own)
 
-digit-iri : (b : ℕ) → is_ascii_digit b ≡ true → is_iri_byte b ≡ true
-unfolding all_below
-digit-iri b own =
-    let small : b < 58 = grind (arith, nat_tests) in
-    implied (is_ascii_digit b) (is_iri_byte b) (from_all_below 58 (λ c. not (is_ascii_digit c) || is_iri_byte c) refl b small) own
-
 pub decimal-iri : (n : ℕ) → list_all is_iri_byte (decimal_text n) ≡ true
-decimal-iri n = list_all-wider is_ascii_digit is_iri_byte digit-iri (decimal_text n) (decimal_text-digits n)
+decimal-iri n = list_all-wider is_ascii_digit is_iri_byte digit_iri (decimal_text n) (decimal_text-digits n)
 
 pub decimal-plain : (n : ℕ) → list_all is_plain_byte (decimal_text n) ≡ true
 decimal-plain n = list_all-wider is_iri_byte is_plain_byte iri_byte-plain (decimal_text n) (decimal-iri n)
-
-pub all_joined : (p : ℕ → Bool) (a b : List ℕ) → list_all p a ≡ true → list_all p b ≡ true → list_all p (a ++ b) ≡ true
-all_joined p a b first second = rw (list_all-append p a b, first) second

@@ -1,21 +1,13 @@
 -- The labels of the metadata's blank nodes.
-use Rattle.std.proofs.Common.{◌≡◌, ℕ, List, [], ◌∷◌, true, not, refl, arith}
+use Rattle.std.proofs.Common.{◌≡◌, ℕ, List, true, not, refl}
 use Rattle.std.specs.Prelude.{codes}
 use Rattle.std.specs.List.{list_all}
 use Rattle.std.specs.Char.{is_ascii}
-use Rattle.std.specs.Str.{IsAscii, is_utf8, chars}
-use Rattle.std.proofs.lemmas.Bool.Decides.{nat_tests}
+use Rattle.std.specs.Str.{is_utf8, chars}
 use Rattle.std.proofs.lemmas.Str.{chars-IsAscii, is_utf8-from_IsUtf8}
-use Rattle.std.proofs.lemmas.Str.Ascii.{IsAscii-nil, IsAscii-cons}
-use Rattle.list_laws.proofs.Tests.{and_first, and_second}
+use Rattle.list_laws.proofs.Bytes.{ascii_list}
 use Rattle.rdf_terms.specs.Label.{is_label, begins_label, are_label_chars, ends_in_dot}
 use Rattle.template_fill.proofs.Addresses.{utf8-ascii}
-
-pub ascii_list : (bytes : List ℕ) → list_all is_ascii bytes ≡ true → IsAscii bytes
-ascii_list [] all = IsAscii-nil
-ascii_list (b ∷ bytes) all =
-    let own = and_first (is_ascii b) _ all in
-    IsAscii-cons b bytes (grind (arith, nat_tests)) (ascii_list bytes (and_second (is_ascii b) _ all))
 
 -- a label of ASCII
 ascii_label : (bytes : List ℕ) → list_all is_ascii bytes ≡ true → begins_label bytes ≡ true → are_label_chars bytes ≡ true → not (ends_in_dot bytes) ≡ true → is_label bytes ≡ true

@@ -13,7 +13,7 @@ use Rattle.template_fill.specs.Metadata.{Config, graph_at, topic_quads, form_qua
 use Rattle.hydra_controls.specs.declared.cut.Cut.{Cut}
 use Rattle.hydra_controls.specs.declared.facts.PageFacts.{PageFacts}
 use Rattle.hydra_controls.specs.Cuts.{Cuts}
-use Rattle.hydra_controls.specs.Facts.{addresses_by, addresses_of, closing_of, counts_of, links_of, mapping_of, mappings_of, mark_of, next_of, page_text, previous_of, quads_of}
+use Rattle.hydra_controls.specs.Facts.{addresses_by, addresses_on, closing_of, counts_of, links_of, mapping_of, mappings_of, mark_of, next_of, page_text, previous_of, quads_of}
 
 -- ---- the quads of what the lines speak of
 
@@ -23,18 +23,18 @@ regrouped a b c d e f g h i = simp append_assoc
 -- the quads with another text of the base
 abbrev with_base : PageFacts → List ℕ → List Quad
 with_base f base =
-    topic_quads (graph_at (addresses_of f)) (addresses_of f).page (addresses_of f).first base
-    ++ (form_quads (graph_at (addresses_of f)) (base ++ codes "{?subject,predicate,object}")
-    ++ (mappings_of f ++ (counts_of f ++ (next_of f ++ (previous_of f ++ version_quads (graph_at (addresses_of f)) base f.version)))))
+    topic_quads (graph_at (addresses_on f)) (addresses_on f).page (addresses_on f).first base
+    ++ (form_quads (graph_at (addresses_on f)) (base ++ codes "{?subject,predicate,object}")
+    ++ (mappings_of f ++ (counts_of f ++ (next_of f ++ (previous_of f ++ version_quads (graph_at (addresses_on f)) base f.version)))))
 
-of_base : (f : PageFacts) (base : Address) → with_base f (address_text base) ≡ metadata_at base (addresses_of f) (nat_lt f.number f.last) (nat_lt 1 f.number) f.count f.version
+of_base : (f : PageFacts) (base : Address) → with_base f (address_text base) ≡ metadata_at base (addresses_on f) (nat_lt f.number f.last) (nat_lt 1 f.number) f.count f.version
 unfolding metadata_at
 of_base f base =
-    let graph = graph_at (addresses_of f) in
-    regrouped (topic_quads graph (addresses_of f).page (addresses_of f).first (address_text base)) (form_quads graph (template_text base)) (mapping_of f (codes "s") (codes "subject")) (mapping_of f (codes "p") (codes "predicate"))
+    let graph = graph_at (addresses_on f) in
+    regrouped (topic_quads graph (addresses_on f).page (addresses_on f).first (address_text base)) (form_quads graph (template_text base)) (mapping_of f (codes "s") (codes "subject")) (mapping_of f (codes "p") (codes "predicate"))
     (mapping_of f (codes "o") (codes "object")) (counts_of f) (next_of f) (previous_of f) (version_quads graph (address_text base) f.version)
 
-facts_quads : (f : PageFacts) (base : Address) → f.base.now ≡ address_text base → quads_of f ≡ metadata_at base (addresses_of f) (nat_lt f.number f.last) (nat_lt 1 f.number) f.count f.version
+facts_quads : (f : PageFacts) (base : Address) → f.base.now ≡ address_text base → quads_of f ≡ metadata_at base (addresses_on f) (nat_lt f.number f.last) (nat_lt 1 f.number) f.count f.version
 unfolding quads_of links_of closing_of
 facts_quads f base is = ap (with_base f) is ∙ of_base f base
 

@@ -2,6 +2,7 @@
 use Rattle.std.proofs.Common.{◌≡◌, ℕ, List, [], ◌∷◌, ◌++◌, true, refl, sym, ap, ap₂, ◌∙◌, append_assoc, append-nil}
 use Rattle.std.specs.Prelude.{codes, slice_index_or}
 use Rattle.std.specs.List.{list_all}
+use Rattle.list_laws.proofs.Each.{all_joined}
 use Rattle.rdf_terms.specs.Canon.{canonical_form, canonical_line, canonical_term}
 use Rattle.rdf_terms.specs.Iri.{is_iri}
 use Rattle.rdf_terms.specs.declared.term.Quad.{Quad}
@@ -10,7 +11,7 @@ use Rattle.rdf_terms.specs.declared.term.Term.TheVariants.{Blank, Iri}
 use Rattle.tpf_base.specs.Decimals.{decimal_text}
 use Rattle.template_fill.specs.Metadata.{hydra, integer, plain, statement}
 use Rattle.hydra_controls.specs.TermTexts.{is_plain_byte}
-use Rattle.hydra_controls.proofs.Iris.{all_joined, decimal-plain, integer_is, iri-plain}
+use Rattle.hydra_controls.proofs.Iris.{decimal-plain, integer_is, iri-plain}
 use Rattle.hydra_controls.proofs.TermLaws.{form_is}
 
 -- the end of each line: what stands behind the text of the graph

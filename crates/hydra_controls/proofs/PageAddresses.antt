@@ -1,34 +1,26 @@
 -- The address of a page's text has that text.
-use Rattle.std.proofs.Common.{◌≡◌, ℕ, ◌<◌, List, ◌++◌, true, refl, sym, ◌∙◌, ap, subst, arith, append_assoc, inl, inr}
+use Rattle.std.proofs.Common.{◌≡◌, ℕ, List, ◌++◌, true, sym, ◌∙◌, ap, subst, append_assoc}
 use Rattle.std.specs.Prelude.{codes, Result, Ok, Err, IfOk}
 use Rattle.std.specs.List.{list_all}
 use Rattle.std.specs.Str.{str_to_ascii_lowercase}
-use Rattle.std.proofs.lemmas.Bool.Decides.{nat_tests}
 use Rattle.std.proofs.lemmas.List.Folds.{list_all-append}
 use Rattle.rdf_terms.specs.Selections.{Selection}
-use Rattle.tpf_base.specs.Addresses.{Address, IsAddress, IsPortTyped, is_address_byte, address_text, authority_text, query_text}
+use Rattle.tpf_base.specs.Addresses.{Address, IsAddress, is_address_byte, address_text, authority_text, query_text}
 use Rattle.template_fill.specs.ReadAddress.{Spelled, IsSpelled, Spells, rooted, with_target, normal}
-use Rattle.template_fill.specs.WebAddress.{IsNormal, Extends}
-use Rattle.template_fill.specs.Pages.{page_address, page_mark, page_pair, selection_text}
+use Rattle.template_fill.specs.WebAddress.{IsNormal}
+use Rattle.template_fill.specs.Pages.{page_address}
 use Rattle.template_fill.proofs.Addresses.{four, normal_is_address, normal-spelled, text-parts}
+use Rattle.template_fill.proofs.Authorities.{port_range}
 use Rattle.template_fill.proofs.Reading.{is_tail, one_address, spells_is_address}
-use Rattle.template_fill.proofs.PageTexts.{page_extends}
+use Rattle.template_fill.proofs.PageTexts.{page_is_longer}
 
 -- ---- the parts that an address was spelled with
-
-above_0 : (typed : List ℕ) (port : ℕ) → IsPortTyped typed port → 0 < port
-above_0 typed port (inl h) = omega (arith, h.1)
-above_0 typed port (inr h) = let own = h.1 in grind (arith, nat_tests)
-
-below_65536 : (typed : List ℕ) (port : ℕ) → IsPortTyped typed port → port < 65536
-below_65536 typed port (inl h) = omega (arith, h.1)
-below_65536 typed port (inr h) = let own = h.1 in grind (arith, nat_tests)
 
 is_spelled : (text : List ℕ) (a : Address) (r : IsAddress text a) → IsSpelled (record { host = r.typed_host; port = a.port; rest = r.typed_path ++ query_text a.query })
 is_spelled text a r = record {
   host = r.host;
-  low = above_0 r.typed_port a.port r.port;
-  high = below_65536 r.typed_port a.port r.port;
+  low = (port_range r.typed_port a.port r.port).0;
+  high = (port_range r.typed_port a.port r.port).1;
   rest = (is_tail r.typed_path a.query r.path r.query).rest;
 }
 
@@ -89,12 +81,6 @@ extended_text base a text more n all is r =
     same_text n.host n.target more n.port a n.normal all (subst (λ (x : List ℕ). IsAddress x a) whole r) ∙ sym whole
 
 -- ---- pages
-
-pub page_is_longer : (base : Address) (s : Selection) (k : ℕ) → Extends base (page_address base s k)
-page_is_longer base s k =
-    let whole = (address_text base ++ selection_text s) ++ page_pair (page_mark (selection_text s)) k in
-    let both = page_extends base s k (page_mark (selection_text s)) (address_text base) (address_text base ++ selection_text s) whole refl refl refl refl in
-    subst (λ (x : List ℕ). Extends base x) both.1 both.0
 
 -- the address that the text of a page's address is has this text
 pub page_text : (base a : Address) (s : Selection) (k : ℕ) → IsAddress (address_text base) base → IsAddress (page_address base s k) a → address_text a ≡ page_address base s k

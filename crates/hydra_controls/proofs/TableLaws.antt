@@ -4,6 +4,7 @@ use Rattle.std.specs.Prelude.{Some, codes, slice_index_or}
 use Rattle.std.specs.List.{list_all}
 use Rattle.std.proofs.lemmas.Bool.{lt-ltb, le-ltb, ne_eqb}
 use Rattle.std.proofs.lemmas.List.{get_or-append-add, get_or_append_left}
+use Rattle.rdf_terms.proofs.Iris.{is_iri_append}
 use Rattle.rdf_terms.specs.Iri.{is_iri, is_iri_byte}
 use Rattle.rdf_terms.specs.declared.term.Term.{Term}
 use Rattle.rdf_terms.specs.declared.term.Term.TheVariants.{Iri}
@@ -12,8 +13,8 @@ use Rattle.tpf_base.specs.Decimals.{decimal_text}
 use Rattle.template_fill.specs.Pages.{page_pair}
 use Rattle.template_fill.specs.Metadata.{graph_at, statement, topic_quads, form_quads, mapping_quads, count_quads, link_quads, version_quads}
 use Rattle.hydra_controls.specs.declared.facts.PageFacts.{PageFacts}
-use Rattle.hydra_controls.specs.Facts.{addresses_of, closing_of, counts_of, form_of, links_of, mapping_of, mappings_of, mark_of, next_of, previous_of, quads_of, topic_of, version_of}
-use Rattle.hydra_controls.proofs.Iris.{decimal-iri, is_iri-append}
+use Rattle.hydra_controls.specs.Facts.{addresses_on, closing_of, counts_of, form_of, links_of, mapping_of, mappings_of, mark_of, next_of, previous_of, quads_of, topic_of, version_of}
+use Rattle.hydra_controls.proofs.Iris.{decimal-iri}
 
 -- ---- the address of a page
 
@@ -41,8 +42,8 @@ pair-iri false fixed k = mark-iri fixed (decimal_text k) (decimal-iri k)
 -- the address of a page, with more characters of an IRI behind it, is an IRI
 pub page_is_iri : (first name text : List ℕ) (fixed : Bool) (k : ℕ) → text ≡ (first ++ page_pair (mark_of fixed) k) ++ name → is_iri first ≡ true → list_all is_iri_byte name ≡ true → is_iri text ≡ true
 page_is_iri first name text fixed k is own all =
-    let page = is_iri-append first (page_pair (mark_of fixed) k) own (pair-iri (k == 1) fixed k) in
-    subst (λ (l : List ℕ). is_iri l ≡ true) (sym is) (is_iri-append (first ++ page_pair (mark_of fixed) k) name page all)
+    let page = is_iri_append first (page_pair (mark_of fixed) k) own (pair-iri (k == 1) fixed k) in
+    subst (λ (l : List ℕ). is_iri l ≡ true) (sym is) (is_iri_append (first ++ page_pair (mark_of fixed) k) name page all)
 
 -- ---- a statement in a list
 
@@ -102,11 +103,11 @@ link_size false graph page name target = refl
 
 closing_size : (f : PageFacts) → length (closing_of f) ≡ (if nat_lt 1 f.number then 1 else 0) + 1
 unfolding closing_of
-closing_size f = omega (arith, length-append (previous_of f) (version_of f), version_size f, link_size (nat_lt 1 f.number) (graph_at (addresses_of f)) (addresses_of f).page (codes "previous") (addresses_of f).previous)
+closing_size f = omega (arith, length-append (previous_of f) (version_of f), version_size f, link_size (nat_lt 1 f.number) (graph_at (addresses_on f)) (addresses_on f).page (codes "previous") (addresses_on f).previous)
 
 links_size : (f : PageFacts) → length (links_of f) ≡ (if nat_lt f.number f.last then 1 else 0) + ((if nat_lt 1 f.number then 1 else 0) + 1)
 unfolding links_of
-links_size f = omega (arith, length-append (next_of f) (closing_of f), closing_size f, link_size (nat_lt f.number f.last) (graph_at (addresses_of f)) (addresses_of f).page (codes "next") (addresses_of f).next)
+links_size f = omega (arith, length-append (next_of f) (closing_of f), closing_size f, link_size (nat_lt f.number f.last) (graph_at (addresses_on f)) (addresses_on f).page (codes "next") (addresses_on f).next)
 
 parts_size : (f : PageFacts) → length (quads_of f) ≡ 18 + length (links_of f)
 unfolding quads_of
@@ -192,22 +193,22 @@ no_previous_size : (f : PageFacts) → f.number ≤ 1 → length (closing_of f) 
 no_previous_size f none = closing_size f ∙ ap (λ (b : Bool). (if b then 1 else 0) + 1) (le-ltb 1 f.number none)
 
 pub previous_first : (f : PageFacts) (q : Quad) (i : ℕ) (d : Quad) → 1 < f.number → i ≡ 0
-    → link_quads true (graph_at (addresses_of f)) (addresses_of f).page (codes "previous") (addresses_of f).previous ≡ q ∷ [] → slice_index_or (closing_of f) i d ≡ q
+    → link_quads true (graph_at (addresses_on f)) (addresses_on f).page (codes "previous") (addresses_on f).previous ≡ q ∷ [] → slice_index_or (closing_of f) i d ≡ q
 unfolding closing_of
 previous_first f q i d some zero one =
-    link_first (nat_lt 1 f.number) (graph_at (addresses_of f)) (addresses_of f).page (codes "previous") (addresses_of f).previous (version_of f) d q i (lt-ltb 1 f.number some) zero one
+    link_first (nat_lt 1 f.number) (graph_at (addresses_on f)) (addresses_on f).page (codes "previous") (addresses_on f).previous (version_of f) d q i (lt-ltb 1 f.number some) zero one
 
 pub version_behind : (f : PageFacts) (q : Quad) (i : ℕ) (d : Quad) → 1 < f.number → (i ≡ 0 → ⊥) → i < length (closing_of f) → version_of f ≡ q ∷ [] → slice_index_or (closing_of f) i d ≡ q
 unfolding closing_of
 version_behind f q i d some other within one =
     let last : i ≡ 1 + 0 = omega (arith, other, within, previous_size f some) in
-    link_passed (nat_lt 1 f.number) (graph_at (addresses_of f)) (addresses_of f).page (codes "previous") (addresses_of f).previous (version_of f) d i 0 (lt-ltb 1 f.number some) last
+    link_passed (nat_lt 1 f.number) (graph_at (addresses_on f)) (addresses_on f).page (codes "previous") (addresses_on f).previous (version_of f) d i 0 (lt-ltb 1 f.number some) last
     ∙ version_alone f q 0 d one refl
 
 pub version_first : (f : PageFacts) (q : Quad) (i : ℕ) (d : Quad) → f.number ≤ 1 → i < length (closing_of f) → version_of f ≡ q ∷ [] → slice_index_or (closing_of f) i d ≡ q
 unfolding closing_of
 version_first f q i d none within one =
-    link_missing (nat_lt 1 f.number) (graph_at (addresses_of f)) (addresses_of f).page (codes "previous") (addresses_of f).previous (version_of f) d i (le-ltb 1 f.number none)
+    link_missing (nat_lt 1 f.number) (graph_at (addresses_on f)) (addresses_on f).page (codes "previous") (addresses_on f).previous (version_of f) d i (le-ltb 1 f.number none)
     ∙ version_alone f q i d one (omega (arith, within, no_previous_size f none))
 
 next_size : (f : PageFacts) → f.number < f.last → length (links_of f) ≡ 1 + length (closing_of f)
@@ -217,20 +218,20 @@ no_next_size : (f : PageFacts) → f.last ≤ f.number → length (links_of f) �
 no_next_size f none = omega (arith, links_size f, ap (λ (b : Bool). (if b then 1 else 0) + ((if nat_lt 1 f.number then 1 else 0) + 1)) (le-ltb f.number f.last none), closing_size f)
 
 pub next_first : (f : PageFacts) (q : Quad) (i : ℕ) (d : Quad) → f.number < f.last → i ≡ 0
-    → link_quads true (graph_at (addresses_of f)) (addresses_of f).page (codes "next") (addresses_of f).next ≡ q ∷ [] → slice_index_or (links_of f) i d ≡ q
+    → link_quads true (graph_at (addresses_on f)) (addresses_on f).page (codes "next") (addresses_on f).next ≡ q ∷ [] → slice_index_or (links_of f) i d ≡ q
 unfolding links_of
 next_first f q i d some zero one =
-    link_first (nat_lt f.number f.last) (graph_at (addresses_of f)) (addresses_of f).page (codes "next") (addresses_of f).next (closing_of f) d q i (lt-ltb f.number f.last some) zero one
+    link_first (nat_lt f.number f.last) (graph_at (addresses_on f)) (addresses_on f).page (codes "next") (addresses_on f).next (closing_of f) d q i (lt-ltb f.number f.last some) zero one
 
 pub behind_next : (f : PageFacts) (q : Quad) (i : ℕ) (d : Quad) → f.number < f.last → (i ≡ 0 → ⊥) → slice_index_or (closing_of f) (i - 1) d ≡ q → slice_index_or (links_of f) i d ≡ q
 unfolding links_of
 behind_next f q i d some other is =
-    link_passed (nat_lt f.number f.last) (graph_at (addresses_of f)) (addresses_of f).page (codes "next") (addresses_of f).next (closing_of f) d i (i - 1) (lt-ltb f.number f.last some) (omega (arith, other)) ∙ is
+    link_passed (nat_lt f.number f.last) (graph_at (addresses_on f)) (addresses_on f).page (codes "next") (addresses_on f).next (closing_of f) d i (i - 1) (lt-ltb f.number f.last some) (omega (arith, other)) ∙ is
 
 pub without_next : (f : PageFacts) (q : Quad) (i : ℕ) (d : Quad) → f.last ≤ f.number → slice_index_or (closing_of f) i d ≡ q → slice_index_or (links_of f) i d ≡ q
 unfolding links_of
 without_next f q i d none is =
-    link_missing (nat_lt f.number f.last) (graph_at (addresses_of f)) (addresses_of f).page (codes "next") (addresses_of f).next (closing_of f) d i (le-ltb f.number f.last none) ∙ is
+    link_missing (nat_lt f.number f.last) (graph_at (addresses_on f)) (addresses_on f).page (codes "next") (addresses_on f).next (closing_of f) d i (le-ltb f.number f.last none) ∙ is
 
 pub behind_next_within : (f : PageFacts) (i : ℕ) → f.number < f.last → (i ≡ 0 → ⊥) → i < length (links_of f) → i - 1 < length (closing_of f)
 behind_next_within f i some other within = omega (arith, other, within, next_size f some)

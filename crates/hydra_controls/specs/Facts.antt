@@ -26,8 +26,9 @@ addresses_by first fixed k = record {
   previous = page_text first fixed (k - 1);
 }
 
-abbrev pub addresses_of : PageFacts → PageAddresses
-addresses_of f = addresses_by f.first.now f.fixed f.number
+-- the addresses on the page that is told of
+abbrev pub addresses_on : PageFacts → PageAddresses
+addresses_on f = addresses_by f.first.now f.fixed f.number
 
 -- the base and the address of page 1 are IRIs
 pub record AreFacts (f : PageFacts) : Type 0 where
@@ -37,40 +38,40 @@ pub record AreFacts (f : PageFacts) : Type 0 where
 -- ---- the parts
 
 abbrev pub topic_of : PageFacts → List Quad
-topic_of f = topic_quads (graph_at (addresses_of f)) (addresses_of f).page (addresses_of f).first f.base.now
+topic_of f = topic_quads (graph_at (addresses_on f)) (addresses_on f).page (addresses_on f).first f.base.now
 
 abbrev pub form_of : PageFacts → List Quad
-form_of f = form_quads (graph_at (addresses_of f)) (f.base.now ++ codes "{?subject,predicate,object}")
+form_of f = form_quads (graph_at (addresses_on f)) (f.base.now ++ codes "{?subject,predicate,object}")
 
 abbrev pub mapping_of : PageFacts → List ℕ → List ℕ → List Quad
-mapping_of f label name = mapping_quads (graph_at (addresses_of f)) label name
+mapping_of f label name = mapping_quads (graph_at (addresses_on f)) label name
 
 abbrev pub mappings_of : PageFacts → List Quad
 mappings_of f = mapping_of f (codes "s") (codes "subject") ++ (mapping_of f (codes "p") (codes "predicate") ++ mapping_of f (codes "o") (codes "object"))
 
 abbrev pub counts_of : PageFacts → List Quad
-counts_of f = count_quads (graph_at (addresses_of f)) (addresses_of f).page (addresses_of f).first f.count
+counts_of f = count_quads (graph_at (addresses_on f)) (addresses_on f).page (addresses_on f).first f.count
 
 abbrev pub next_of : PageFacts → List Quad
-next_of f = link_quads (nat_lt f.number f.last) (graph_at (addresses_of f)) (addresses_of f).page (codes "next") (addresses_of f).next
+next_of f = link_quads (nat_lt f.number f.last) (graph_at (addresses_on f)) (addresses_on f).page (codes "next") (addresses_on f).next
 
 abbrev pub previous_of : PageFacts → List Quad
-previous_of f = link_quads (nat_lt 1 f.number) (graph_at (addresses_of f)) (addresses_of f).page (codes "previous") (addresses_of f).previous
+previous_of f = link_quads (nat_lt 1 f.number) (graph_at (addresses_on f)) (addresses_on f).page (codes "previous") (addresses_on f).previous
 
 abbrev pub version_of : PageFacts → List Quad
-version_of f = version_quads (graph_at (addresses_of f)) f.base.now f.version
+version_of f = version_quads (graph_at (addresses_on f)) f.base.now f.version
 
 -- the link to the next page, where there is one
 abbrev pub next_quad : PageFacts → Quad
-next_quad f = statement (graph_at (addresses_of f)) (Iri (addresses_of f).page) (hydra (codes "next")) (Iri (addresses_of f).next)
+next_quad f = statement (graph_at (addresses_on f)) (Iri (addresses_on f).page) (hydra (codes "next")) (Iri (addresses_on f).next)
 
 -- the link to the previous page, where there is one
 abbrev pub previous_quad : PageFacts → Quad
-previous_quad f = statement (graph_at (addresses_of f)) (Iri (addresses_of f).page) (hydra (codes "previous")) (Iri (addresses_of f).previous)
+previous_quad f = statement (graph_at (addresses_on f)) (Iri (addresses_on f).page) (hydra (codes "previous")) (Iri (addresses_on f).previous)
 
 -- the statement of the version
 abbrev pub version_quad : PageFacts → Quad
-version_quad f = statement (graph_at (addresses_of f)) (Iri (f.base.now ++ codes "#dataset")) (owl (codes "versionInfo")) (plain (decimal_text f.version))
+version_quad f = statement (graph_at (addresses_on f)) (Iri (f.base.now ++ codes "#dataset")) (owl (codes "versionInfo")) (plain (decimal_text f.version))
 
 -- the link to the previous page, and the version
 unfoldable pub closing_of : PageFacts → List Quad

@@ -7,7 +7,7 @@ ghost use Rattle.rdf_terms.specs.declared.term.Quad.{Quad};
 ghost use Rattle.template_fill.specs.Metadata.{graph_at, plain, statement, link_quads};
 ghost use Rattle.hydra_controls.specs.LineTexts.{text_of};
 ghost use Rattle.hydra_controls.specs.TermTexts.{AreTerms, IsTerm, is_plain_byte, quad_of, term_of};
-ghost use Rattle.hydra_controls.specs.Facts.{AreFacts, addresses_of, closing_of, counts_of, form_of, links_of, mapping_of, mappings_of, mark_of, page_text, quads_of, topic_of, version_of};
+ghost use Rattle.hydra_controls.specs.Facts.{AreFacts, addresses_on, closing_of, counts_of, form_of, links_of, mapping_of, mappings_of, mark_of, page_text, quads_of, topic_of, version_of};
 
 use crate::quad_text::QuadText;
 use crate::term_text::{
@@ -113,7 +113,7 @@ impl<'a> PageFacts<'a> {
         requires subject { IsTerm subject }
         requires predicate { IsTerm predicate }
         requires object { IsTerm object }
-        ensures quad { quad_of result ≡ statement (graph_at (addresses_of self.entry))
+        ensures quad { quad_of result ≡ statement (graph_at (addresses_on self.entry))
             (term_of subject.entry) (term_of predicate.entry) (term_of object.entry) }
         ensures terms { AreTerms result }
     {
@@ -224,7 +224,7 @@ impl<'a> PageFacts<'a> {
     fn link(self, name: &'a str, number: u64) -> QuadText<'a>
         requires facts { AreFacts self }
         requires name { list_all is_iri_byte name.now ≡ true }
-        ensures said { link_quads true (graph_at (addresses_of self.entry)) (addresses_of self.entry).page name.now
+        ensures said { link_quads true (graph_at (addresses_on self.entry)) (addresses_on self.entry).page name.now
             (page_text self.entry.first.now self.entry.fixed number) ≡ quad_of result ∷ [] }
         ensures terms { AreTerms result }
     {

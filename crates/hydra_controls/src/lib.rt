@@ -18,7 +18,7 @@
 mod config;
 mod cut;
 mod facts;
-mod laws;
+pub mod laws;
 mod line_table;
 mod line_text;
 mod lines;

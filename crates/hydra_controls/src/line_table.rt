@@ -4,7 +4,7 @@ ghost use Rattle.std.specs.Prelude.{◌≡◌, ◌<◌, ◌++◌, codes, length}
 ghost use Rattle.rdf_terms.specs.Canon.{canonical_line};
 ghost use Rattle.template_fill.specs.Metadata.{graph_at};
 ghost use Rattle.hydra_controls.specs.LineTexts.{IsLineAt, text_of, text_of_line};
-ghost use Rattle.hydra_controls.specs.Facts.{AreFacts, addresses_of, closing_of, counts_of, form_of, links_of, mappings_of, next_quad, previous_quad, quads_of, topic_of, version_quad};
+ghost use Rattle.hydra_controls.specs.Facts.{AreFacts, addresses_on, closing_of, counts_of, form_of, links_of, mappings_of, next_quad, previous_quad, quads_of, topic_of, version_quad};
 
 use crate::facts::PageFacts;
 use crate::line_text::LineText;
@@ -22,7 +22,7 @@ impl<'a> PageFacts<'a> {
         object: TextParts<'a>,
     ) -> LineText<'a>
         ensures { text_of_line result ≡ opening.now ++ (text_of subject.entry ++
-            (text_of object.entry ++ (graph_at (addresses_of self.entry) ++ codes "> .\n"))) }
+            (text_of object.entry ++ (graph_at (addresses_on self.entry) ++ codes "> .\n"))) }
     {
         LineText {
             opening,
@@ -34,7 +34,7 @@ impl<'a> PageFacts<'a> {
 
     /// A line in which nothing but the graph differs from page to page.
     fn fixed_line(self, front: &'a str) -> LineText<'a>
-        ensures { text_of_line result ≡ front.now ++ (graph_at (addresses_of self.entry) ++ codes "> .\n") }
+        ensures { text_of_line result ≡ front.now ++ (graph_at (addresses_on self.entry) ++ codes "> .\n") }
     {
         let nothing = TextParts::new("", "");
         self.line_of(front, nothing, nothing)
@@ -92,7 +92,7 @@ impl<'a> PageFacts<'a> {
     fn mapping_text(self, i: usize) -> &'a str
         requires { i < 9 }
         ensures { IsLineAt (mappings_of self.entry) i
-            (result.now ++ (graph_at (addresses_of self.entry) ++ codes "> .\n")) }
+            (result.now ++ (graph_at (addresses_on self.entry) ++ codes "> .\n")) }
     {
         if i == 0 {
             return "_:form <http://www.w3.org/ns/hydra/core#mapping> _:s <";

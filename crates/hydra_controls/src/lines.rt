@@ -1,14 +1,13 @@
 // The lines of a page's metadata, each made when it is written.
-ghost use Rattle.std.specs.Prelude.{◌≡◌, ◌-◌, ◌≤◌, ◌<◌, ◌*◌, ◌^◌, ◌++◌, length, take, drop, nat_lt, slice_index_or, IfOk, OnOk, OnErr};
+ghost use Rattle.std.specs.Prelude.{◌≡◌, ◌≤◌, ◌<◌, ◌*◌, ◌^◌, ◌++◌, length, take, drop, nat_lt, IfOk, OnOk, OnErr};
 ghost use Rattle.std.specs.List.{AllByRecursion};
-ghost use Rattle.rdf_terms.specs.Canon.{canonical_line};
 ghost use Rattle.rdf_terms.specs.declared.term.Quad.{Quad};
 ghost use Rattle.list_laws.specs.Begins.{Begins};
 ghost use Rattle.tpf_base.specs.Addresses.{address_text};
 ghost use Rattle.template_fill.specs.Forms.{HasNoBlank};
 ghost use Rattle.template_fill.specs.Metadata.{metadata_at, page_metadata};
 ghost use Rattle.hydra_controls.specs.Facts.{AreFacts, addresses_by, quads_of};
-ghost use Rattle.hydra_controls.specs.Lines.{lines_text};
+ghost use Rattle.hydra_controls.specs.Lines.{is_left_of_line, line_in, lines_text, part_of_line};
 
 use crate::Config;
 use crate::cut::Cut;
@@ -182,7 +181,7 @@ impl MetadataLines {
     /// How many bytes the line in this place has, its end LF with it, found without making it.
     pub fn length(&self, i: usize) -> u128
         requires { i < length self.now }
-        ensures length { (d : Quad) → result ≡ length (canonical_line (slice_index_or self.now i d)) }
+        ensures length { (d : Quad) → result ≡ length (line_in self.now i d) }
         ensures small { result < 2 ^ 70 }
     {
         self.facts().line(i).length()
@@ -198,10 +197,8 @@ impl MetadataLines {
         out: &mut Vec<u8>,
     ) -> Result<bool, OutOfMemory>
         requires { i < length self.now }
-        ensures ok { (d : Quad) → OnOk result
-            (out.new.items ≡ out.old.items ++ take most (drop from (canonical_line (slice_index_or self.now i d)))) }
-        ensures more { (d : Quad) → IfOk result
-            (λ more. more ≡ nat_lt most (length (canonical_line (slice_index_or self.now i d)) - from)) }
+        ensures ok { (d : Quad) → OnOk result (out.new.items ≡ out.old.items ++ part_of_line self.now i from most d) }
+        ensures more { (d : Quad) → IfOk result (λ more. more ≡ is_left_of_line self.now i from most d) }
         ensures front { Begins out.old.items out.new.items }
     {
         let mut cut = Cut::new(from, most);
@@ -221,10 +218,8 @@ impl MetadataLines {
         out: &mut Vec<u8>,
     ) -> Result<bool, OutOfMemory>
         requires { i < length self.now }
-        ensures ok { (d : Quad) → OnOk result
-            (out.new.items ≡ out.old.items ++ take most (drop from (canonical_line (slice_index_or self.now i d)))) }
-        ensures more { (d : Quad) → IfOk result
-            (λ more. more ≡ nat_lt most (length (canonical_line (slice_index_or self.now i d)) - from)) }
+        ensures ok { (d : Quad) → OnOk result (out.new.items ≡ out.old.items ++ part_of_line self.now i from most d) }
+        ensures more { (d : Quad) → IfOk result (λ more. more ≡ is_left_of_line self.now i from most d) }
         ensures err { OnErr result (out.new.items ≡ out.old.items) }
     {
         let before = out.len();
@@ -236,8 +231,7 @@ impl MetadataLines {
     /// `OutOfMemory`, which comes only when memory ran out, `out` is as before.
     pub fn write(&self, i: usize, out: &mut Vec<u8>) -> Result<(), OutOfMemory>
         requires { i < length self.now }
-        ensures ok { (d : Quad) → OnOk result
-            (out.new.items ≡ out.old.items ++ canonical_line (slice_index_or self.now i d)) }
+        ensures ok { (d : Quad) → OnOk result (out.new.items ≡ out.old.items ++ line_in self.now i d) }
         ensures err { OnErr result (out.new.items ≡ out.old.items) }
     {
         let room = make_room(self.length(i), out)?;

@@ -150,6 +150,14 @@ page_extends base s k mark a b c ea em eb ec =
     let bytes : list_all is_address_byte more ≡ true = more-address s k (decimal_text-digits k) in
     (record { more = more; is_text = text; bytes = bytes }, text)
 
+pub page_is_longer : (base : Address) (s : Selection) (k : ℕ) → Extends base (page_address base s k)
+unfolding page_address
+page_is_longer base s k = record {
+  more = selection_text s ++ page_pair (page_mark (selection_text s)) k;
+  is_text = refl;
+  bytes = more-address s k (decimal_text-digits k);
+}
+
 pub mark-address : (text : List ℕ) → is_address_byte (mark_behind text) ≡ true
 mark-address text = elim (list_any (λ b. b == 63) text) as (λ v. is_address_byte (cond v 38 63) ≡ true) [ true ↦ refl | false ↦ refl ]
 

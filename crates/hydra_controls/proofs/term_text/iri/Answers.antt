@@ -1,5 +1,5 @@
-use Rattle.hydra_controls.proofs.Iris.{is_iri-append}
+use Rattle.rdf_terms.proofs.Iris.{is_iri_append}
 use Rattle.hydra_controls.proofs.term_text.iri.Goals as goal
 
 pub of_texts-requires : goal.of_texts-requires
-of_texts-requires c = is_iri-append c.args.front.now c.args.end.now c.requires.front c.requires.end
+of_texts-requires c = is_iri_append c.args.front.now c.args.end.now c.requires.front c.requires.end

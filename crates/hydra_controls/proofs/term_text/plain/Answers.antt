@@ -1,5 +1,5 @@
+use Rattle.list_laws.proofs.Each.{all_joined}
 use Rattle.hydra_controls.specs.TermTexts.{is_plain_byte}
-use Rattle.hydra_controls.proofs.Iris.{all_joined}
 use Rattle.hydra_controls.proofs.term_text.plain.Goals as goal
 
 pub of_texts-requires : goal.of_texts-requires

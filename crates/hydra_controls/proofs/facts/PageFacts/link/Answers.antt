@@ -1,6 +1,6 @@
 use Rattle.std.proofs.Common.{refl, true}
 use Rattle.template_fill.specs.Metadata.{graph_at, link_quads}
-use Rattle.hydra_controls.specs.Facts.{addresses_of, page_text}
+use Rattle.hydra_controls.specs.Facts.{addresses_on, page_text}
 use Rattle.hydra_controls.specs.TermTexts.{quad_of}
 use Rattle.hydra_controls.proofs.TableLaws.{alone}
 use Rattle.hydra_controls.proofs.facts.PageFacts.link.Goals as goal
@@ -8,5 +8,5 @@ use Rattle.hydra_controls.proofs.facts.PageFacts.link.Goals as goal
 pub returns-clause-said : goal.returns-clause-said
 unfolding link_quads
 returns-clause-said c =
-    alone (link_quads true (graph_at (addresses_of c.args.self)) (addresses_of c.args.self).page c.args.name.now (page_text c.args.self.first.now c.args.self.fixed c.args.number)) (quad_of c.says.result) _ _ _ _ _ _ _
+    alone (link_quads true (graph_at (addresses_on c.args.self)) (addresses_on c.args.self).page c.args.name.now (page_text c.args.self.first.now c.args.self.fixed c.args.number)) (quad_of c.says.result) _ _ _ _ _ _ _
     c.says.ensures.quad c.page.ensures.term c.hydra.ensures.term c.page-2.ensures.term refl

@@ -6,14 +6,14 @@ use Rattle.rdf_terms.specs.declared.term.Term.TheVariants.{Blank}
 use Rattle.rdf_terms.specs.Canon.{canonical_line, canonical_term}
 use Rattle.template_fill.specs.Metadata.{graph_at, hydra, mapping_quads, plain, rdf, statement}
 use Rattle.hydra_controls.specs.declared.facts.PageFacts.{PageFacts}
-use Rattle.hydra_controls.specs.Facts.{addresses_of, mappings_of}
+use Rattle.hydra_controls.specs.Facts.{addresses_on, mappings_of}
 use Rattle.hydra_controls.proofs.LineRows.{fixed_line, front_of, line_at, line_end}
 use Rattle.hydra_controls.proofs.facts.PageFacts.mapping_text.Goals as goal
 
 -- the statement in place n of the mappings has this text in front of its graph
-mapped : (f : PageFacts) (i n : ℕ) (d : Quad) (s p o : Term) (text : List ℕ) → i ≡ n → slice_index_or (mappings_of f) n d ≡ statement (graph_at (addresses_of f)) s p o
-    → text ≡ front_of (canonical_term s) (canonical_term p) (canonical_term o) ++ (graph_at (addresses_of f) ++ line_end) → canonical_line (slice_index_or (mappings_of f) i d) ≡ text
-mapped f i n d s p o text is at written = line_at (mappings_of f) i n d (statement (graph_at (addresses_of f)) s p o) text is at (fixed_line (graph_at (addresses_of f)) s p o text written)
+mapped : (f : PageFacts) (i n : ℕ) (d : Quad) (s p o : Term) (text : List ℕ) → i ≡ n → slice_index_or (mappings_of f) n d ≡ statement (graph_at (addresses_on f)) s p o
+    → text ≡ front_of (canonical_term s) (canonical_term p) (canonical_term o) ++ (graph_at (addresses_on f) ++ line_end) → canonical_line (slice_index_or (mappings_of f) i d) ≡ text
+mapped f i n d s p o text is at written = line_at (mappings_of f) i n d (statement (graph_at (addresses_on f)) s p o) text is at (fixed_line (graph_at (addresses_on f)) s p o text written)
 
 pub returns-then-i-eq0 : goal.returns-then-i-eq0
 unfolding mapping_quads hydra
