@@ -1,5 +1,5 @@
 -- The target of an address with rows is longer by the rows.
-use Rattle.std.proofs.Common.{ℕ, ◌≡◌, ◌+◌, ◌<◌, inl, inr, Bool, true, false, ◌==◌, nat_le, cond, List, [], ◌∷◌, ◌++◌, length, Option, Some, None, refl, ap, subst, ◌∙◌, arith, append_assoc, length-append}
+use Rattle.std.proofs.Common.{ℕ, ◌≡◌, ◌+◌, inl, inr, Bool, true, false, ◌==◌, cond, List, [], ◌∷◌, ◌++◌, length, Option, Some, None, refl, ap, subst, ◌∙◌, arith, append_assoc, length-append}
 use Rattle.std.specs.Prelude.{codes, decimal}
 use Rattle.std.specs.List.{list_all, list_any}
 use Rattle.std.specs.Char.{is_ascii_digit}
@@ -8,6 +8,7 @@ use Rattle.std.proofs.lemmas.List.Folds.{list_any-append, list_all-append}
 use Rattle.list_laws.proofs.Tests.{and_first, and_second}
 use Rattle.rdf_terms.specs.declared.slots.Slots.{Slots}
 use Rattle.tpf_base.specs.Addresses.{Address, IsAddress, IsPortTyped, is_host_byte, is_path, is_path_byte, is_address_byte, is_query_part, query_text, target_of}
+use Rattle.tpf_base.proofs.AddressBytes.{port_below}
 use Rattle.template_fill.specs.Rows.{row_text, rows_text}
 use Rattle.template_fill.specs.Values.{encoded_value}
 use Rattle.template_fill.specs.Forms.{mark_behind}
@@ -33,8 +34,7 @@ path-unmarked (b ∷ path) h =
 port-unmarked : (typed : List ℕ) (port : ℕ) → IsPortTyped typed port → marked typed ≡ false
 port-unmarked typed port (inl h) = rw h.0 refl
 port-unmarked typed port (inr h) =
-    let high : port < 65536 = grind (arith, nat_tests, and_second (nat_le 1 port) _ h.1) in
-    rw h.0 (unmarked is_ascii_digit unmarked-digit (decimal port) (all_digits-decimal port (omega (arith, high))))
+    rw h.0 (unmarked is_ascii_digit unmarked-digit (decimal port) (all_digits-decimal port (omega (arith, port_below typed port (inr h)))))
 
 both-unmarked : (xs ys : List ℕ) → marked xs ≡ false → marked ys ≡ false → marked (xs ++ ys) ≡ false
 both-unmarked xs ys x y = list_any-append (λ b. b == 63) xs ys ∙ rw x y

@@ -9,7 +9,7 @@ use Rattle.std.proofs.lemmas.Bool.Decides.{nat_tests}
 use Rattle.std.proofs.lemmas.List.{length-map}
 use Rattle.form_urlencoded.specs.Form.{split_pair, onto_first, split, is_nonempty, raw_pairs, plus_to_space, decode, ampersand, equals_sign}
 use Rattle.percent_encoding.specs.Percent.{is_escape, percent_decode}
-use Rattle.list_laws.proofs.Options.{some_same}
+use Rattle.list_laws.proofs.Options.{some_same, bind_some, when_some}
 use Rattle.list_laws.proofs.Bytes.{same_is}
 use Rattle.rdf_terms.specs.Iri.{is_iri}
 use Rattle.rdf_terms.specs.Tag.{is_tag, lower}
@@ -31,7 +31,6 @@ use Rattle.template_fill.specs.Explicit.{suffix, explicit_form, first_of, cut_la
 use Rattle.template_fill.specs.declared.fault.ValueFault.{ValueFault}
 use Rattle.template_fill.specs.declared.fault.ValueFault.TheVariants as faults
 use Rattle.template_fill.specs.Answers.{Question, form_text, parameters, values_under, one_value, slot_under, page_number, rows_under, asked_by, question_of, AsksFor}
-use Rattle.template_fill.proofs.Reading.{bind-inv, when-inv}
 use Rattle.plan_laws.proofs.Lengths.{IsShortSlot, IsShort, places_short, row_short, selection_long}
 
 -- ---- texts
@@ -234,7 +233,7 @@ wider few most (Fixed term) le h = omega (arith, h, le)
 
 place_short : (name : List ℕ) (pairs : List (List ℕ × List ℕ)) (slot : Slot) → slot_under name pairs ≡ Some slot → IsShortSlot (under name pairs) slot
 place_short name pairs slot e =
-    let found = bind-inv (one_value (values_under name pairs)) (λ value. accepted (slot_of value)) slot e in
+    let found = bind_some (one_value (values_under name pairs)) (λ value. accepted (slot_of value)) slot e in
     wider (length found.0) (under name pairs) slot (one_sum (values_under name pairs) found.0 found.1) (accepted_short (length found.0) (slot_of found.0) slot (slot_short found.0) found.2)
 
 -- no value stands under two of the names
@@ -324,8 +323,8 @@ three_sum (s ∷ p ∷ o ∷ more ∷ rest) t e = absurd (cc)
 in_row_short : (text : List ℕ) (slot : Slot) → slot_in_row text ≡ Some slot → IsShortSlot (length text) slot
 in_row_short text slot e =
     let decoded = percent_decode text in
-    let found = bind-inv (when (is_utf8 decoded) decoded) (λ form. accepted (slot_of form)) slot e in
-    let read = when-inv (is_utf8 decoded) decoded found.0 found.1 in
+    let found = bind_some (when (is_utf8 decoded) decoded) (λ form. accepted (slot_of form)) slot e in
+    let read = when_some (is_utf8 decoded) decoded found.0 found.1 in
     wider (length found.0) (length text) slot (omega (arith, percent_short text, ap length read.1)) (accepted_short (length found.0) (slot_of found.0) slot (slot_short found.0) found.2)
 
 abbrev row_with : Slot → Slot → Slot → Slots
@@ -334,10 +333,10 @@ row_with s p o = record { subject = s; predicate = p; object = o }
 row_of_short : (text : List ℕ) (r : Slots) → row_of text ≡ Some r → length (row_pair 38 r) ≤ 11 + 9 * length text
 unfolding row_of
 row_of_short text r e =
-    let t = bind-inv (places_between text) (λ places. slot_in_row places.0 >>= (λ s. slot_in_row places.1 >>= (λ p. slot_in_row places.2 >>= (λ o. Some (row_with s p o))))) r e in
-    let s = bind-inv (slot_in_row t.0.0) (λ s. slot_in_row t.0.1 >>= (λ p. slot_in_row t.0.2 >>= (λ o. Some (row_with s p o)))) r t.2 in
-    let p = bind-inv (slot_in_row t.0.1) (λ p. slot_in_row t.0.2 >>= (λ o. Some (row_with s.0 p o))) r s.2 in
-    let o = bind-inv (slot_in_row t.0.2) (λ o. Some (row_with s.0 p.0 o)) r p.2 in
+    let t = bind_some (places_between text) (λ places. slot_in_row places.0 >>= (λ s. slot_in_row places.1 >>= (λ p. slot_in_row places.2 >>= (λ o. Some (row_with s p o))))) r e in
+    let s = bind_some (slot_in_row t.0.0) (λ s. slot_in_row t.0.1 >>= (λ p. slot_in_row t.0.2 >>= (λ o. Some (row_with s p o)))) r t.2 in
+    let p = bind_some (slot_in_row t.0.1) (λ p. slot_in_row t.0.2 >>= (λ o. Some (row_with s.0 p o))) r s.2 in
+    let o = bind_some (slot_in_row t.0.2) (λ o. Some (row_with s.0 p.0 o)) r p.2 in
     let same : row_with s.0 p.0 o.0 ≡ r = some_same {x = row_with s.0 p.0 o.0} {y = r} o.2 in
     let short = row_short 38 (row_with s.0 p.0 o.0) (length t.0.0) (length t.0.1) (length t.0.2) (in_row_short t.0.0 s.0 s.1) (in_row_short t.0.1 p.0 p.1) (in_row_short t.0.2 o.0 o.1) in
     subst (λ (x : Slots). length (row_pair 38 x) ≤ 11 + 9 * length text) same (omega (arith, short, three_sum (slice_split (λ b. b == 44) text) t.0 t.1, slices_sum text))
@@ -345,16 +344,16 @@ row_of_short text r e =
 rows_of_short : (texts : List (List ℕ)) (rows : List Slots) → rows_of texts ≡ Some rows → length (rows_text 38 rows) ≤ 11 * length texts + 9 * together texts
 rows_of_short [] rows e = let same : [] ≡ rows = some_same e in subst (λ (l : List Slots). length (rows_text 38 l) ≤ 0) same (omega arith)
 rows_of_short (text ∷ texts) rows e =
-    let first = bind-inv (row_of text) (λ r. rows_of texts >>= (λ more. Some (r ∷ more))) rows e in
-    let others = bind-inv (rows_of texts) (λ more. Some (first.0 ∷ more)) rows first.2 in
+    let first = bind_some (row_of text) (λ r. rows_of texts >>= (λ more. Some (r ∷ more))) rows e in
+    let others = bind_some (rows_of texts) (λ more. Some (first.0 ∷ more)) rows first.2 in
     let same : first.0 ∷ others.0 ≡ rows = some_same {x = first.0 ∷ others.0} {y = rows} others.2 in
     subst (λ (l : List Slots). length (rows_text 38 l) ≤ 11 * length (text ∷ texts) + 9 * together (text ∷ texts)) same
     (omega (arith, row_of_short text first.0 first.1, rows_of_short texts others.0 others.1, length-append (row_pair 38 first.0) (rows_text 38 others.0)))
 
 few_short : (texts : List (List ℕ)) (rows : List Slots) → few_rows_of texts ≡ Some rows → length (rows_text 38 rows) ≤ 704 + 9 * together texts
 few_short texts rows e =
-    let found = bind-inv (when (nat_le (length texts) MOST_ROWS) texts) rows_of rows e in
-    let few = when-inv (nat_le (length texts) MOST_ROWS) texts found.0 found.1 in
+    let found = bind_some (when (nat_le (length texts) MOST_ROWS) texts) rows_of rows e in
+    let few = when_some (nat_le (length texts) MOST_ROWS) texts found.0 found.1 in
     let most : length texts ≤ 64 = grind (arith, nat_tests, few.0) in
     omega (arith, most, rows_of_short texts rows (ap rows_of few.1 ∙ found.2))
 
@@ -376,11 +375,11 @@ selection_short pairs s few hs hp ho hr = record {
 asked_short : (reads : Bool) (pairs : List (List ℕ × List ℕ)) (question : Question) → values_of pairs ≤ 4 * LONGEST_START → asked_by reads pairs ≡ Some question → IsShort question.selection
 asked_short reads pairs question few is =
     let pages : Option ℕ = one_value (values_under (codes "page") pairs) >>= page_number in
-    let s = bind-inv (slot_under (codes "subject") pairs) (λ s. slot_under (codes "predicate") pairs >>= (λ p. slot_under (codes "object") pairs >>= (λ o. rows_under reads pairs >>= (λ rows. pages >>= (λ page. Some (question_with s p o rows page)))))) question is in
-    let p = bind-inv (slot_under (codes "predicate") pairs) (λ p. slot_under (codes "object") pairs >>= (λ o. rows_under reads pairs >>= (λ rows. pages >>= (λ page. Some (question_with s.0 p o rows page))))) question s.2 in
-    let o = bind-inv (slot_under (codes "object") pairs) (λ o. rows_under reads pairs >>= (λ rows. pages >>= (λ page. Some (question_with s.0 p.0 o rows page)))) question p.2 in
-    let r = bind-inv (rows_under reads pairs) (λ rows. pages >>= (λ page. Some (question_with s.0 p.0 o.0 rows page))) question o.2 in
-    let n = bind-inv pages (λ page. Some (question_with s.0 p.0 o.0 r.0 page)) question r.2 in
+    let s = bind_some (slot_under (codes "subject") pairs) (λ s. slot_under (codes "predicate") pairs >>= (λ p. slot_under (codes "object") pairs >>= (λ o. rows_under reads pairs >>= (λ rows. pages >>= (λ page. Some (question_with s p o rows page)))))) question is in
+    let p = bind_some (slot_under (codes "predicate") pairs) (λ p. slot_under (codes "object") pairs >>= (λ o. rows_under reads pairs >>= (λ rows. pages >>= (λ page. Some (question_with s.0 p o rows page))))) question s.2 in
+    let o = bind_some (slot_under (codes "object") pairs) (λ o. rows_under reads pairs >>= (λ rows. pages >>= (λ page. Some (question_with s.0 p.0 o rows page)))) question p.2 in
+    let r = bind_some (rows_under reads pairs) (λ rows. pages >>= (λ page. Some (question_with s.0 p.0 o.0 rows page))) question o.2 in
+    let n = bind_some pages (λ page. Some (question_with s.0 p.0 o.0 r.0 page)) question r.2 in
     let q = question_with s.0 p.0 o.0 r.0 n.0 in
     let same : q ≡ question = some_same {x = question_with s.0 p.0 o.0 r.0 n.0} {y = question} n.2 in
     subst (λ (x : Question). IsShort x.selection) same

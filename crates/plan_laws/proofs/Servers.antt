@@ -13,6 +13,7 @@ use Rattle.std.proofs.lemmas.Bool.Decides.{nat_tests}
 use Rattle.std.proofs.lemmas.List.Elements.{All-nil, All-cons, All-head, All-tail, filter_agree}
 use Rattle.std.proofs.lemmas.List.Sorted.{IsPermutation-refl, IsPermutation-trans, IsPermutation-cons, IsPermutation-append_left, IsPermutation-append_comm, All-permutation, length_permutation}
 use Rattle.list_laws.proofs.Orders.{filter_turned}
+use Rattle.list_laws.proofs.Lists.{filter_length}
 use Rattle.tpf_base.specs.Addresses.{Address, IsAddress}
 use Rattle.rdf_terms.specs.declared.term.Triple.{Triple}
 use Rattle.rdf_terms.specs.declared.slots.Slots.{Slots}
@@ -144,14 +145,6 @@ selected-none : (triples : List Triple) (rows : Bool) (s : Selection) → fragme
 selected-none triples false s e = e
 selected-none triples true s e = restricted-none s.rows (fragment triples s.slots) e
 
-one-longer : {X : Type 0} (x : X) (ys : List X) (n : ℕ) (b : Bool) → length ys ≤ n → length (if b then x ∷ ys else ys) ≤ suc n
-one-longer x ys n true h = omega (arith, h)
-one-longer x ys n false h = omega (arith, h)
-
-filter-length : {X : Type 0} (test : X → Bool) (xs : List X) → length (filter test xs) ≤ length xs
-filter-length test [] = omega arith
-filter-length test (x ∷ xs) = one-longer x (filter test xs) (length xs) (test x) (filter-length test xs)
-
 -- ---- pages
 
 drop-page : {X : Type 0} (xs : List X) (k m : ℕ) → drop (k * m) xs ≡ take m (drop (k * m) xs) ++ drop (suc k * m) xs
@@ -236,7 +229,7 @@ world-of same unasked versions block history version config low high h c few =
     let turned : (s : Selection) → IsPermutation (kept s) (given s) = λ s. kept-turned triples rows s (fragment-turned triples s.slots same valid.data_set.ascending) in
     let sized : 0 < size = omega (arith, c.low) in
     let whole : (s : Selection) → items_after (server_world block triples config) s 0 ≡ given s = λ s. items-first (server_world block triples config) s ∙ pages-whole (given s) size sized in
-    let counted : (s : Selection) → length (given s) < 2 ^ 64 = λ s. omega (arith, few, filter-length (λ t. matches s.slots t && kept_by rows s.rows t) triples, length_permutation _ _ (turned s)) in
+    let counted : (s : Selection) → length (given s) < 2 ^ 64 = λ s. omega (arith, few, filter_length (λ t. matches s.slots t && kept_by rows s.rows t) triples, length_permutation _ _ (turned s)) in
     record {
       fragments = λ s. subst (λ (l : List Triple). IsPermutation (kept s) l) (sym (whole s)) (turned s);
       keeps_all = kept-all rows;
