@@ -10,7 +10,6 @@ use Rattle.std.proofs.lemmas.List.{reverse-append, reverse-reverse}
 use Rattle.std.proofs.lemmas.List.Folds.{list_all-append}
 use Rattle.httparse.specs.Grammar.{is_token_byte, is_value_byte, skip_ows, trim_ows}
 use Rattle.tpf_base.specs.Decimals.{digits_up_to, decimal_text}
-use Rattle.tpf_base.proofs.Heads.{value_digit}
 use Rattle.tpf_base.proofs.DecimalTexts.{decimal_text-digits, decimal_text-some, decimal_text-short, decimal_text-value}
 use Rattle.tpf_base.specs.HttpText.{field_line, answer_head}
 use Rattle.tpf_base.specs.HttpHeads.{Request, is_word, has_word}
@@ -31,7 +30,7 @@ use Rattle.std.specs.Prelude.{bytes_eq}
 use Rattle.template_fill.proofs.Passing.{list_all-wider}
 use Rattle.http_ends.specs.Answers.{IsStatus, AnswerIsRead, AnswersAreRead, AnswersHaveStatus, LongHeadsAreRefused, HeadsAreShort, ServerAnswersAreRead, PagesAreNQuads}
 use Rattle.http_ends.proofs.EmptyLines.{EndsOnce}
-use Rattle.http_ends.proofs.Fields.{is_seen, seen_digit}
+use Rattle.http_ends.proofs.Fields.{is_seen, seen_digit, value_digit}
 use Rattle.http_ends.proofs.HeadTexts.{IsWhole, AreWhole, response_for, written_pairs, head_reads, head_ends, head_feeds}
 use Rattle.http_ends.proofs.BodyReadings.{sized_whole, sized_part, head_part, head_whole, head_long, IsWithinHead, IsPast, front_cases}
 

@@ -42,6 +42,9 @@ host_byte b h = grind (arith, nat_tests)
 pub seen_digit : (b : ℕ) → is_ascii_digit b ≡ true → is_seen b ≡ true
 seen_digit b h = grind (arith, nat_tests)
 
+pub value_digit : (b : ℕ) → is_ascii_digit b ≡ true → is_value_byte b ≡ true
+value_digit b h = grind (arith, nat_tests)
+
 address_byte : (b : ℕ) → is_address_byte b ≡ true → is_seen b ≡ true
 address_byte b h = (and_parts (nat_lt 32 b && nat_lt b 127) _ h).0
 
