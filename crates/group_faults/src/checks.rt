@@ -1,7 +1,7 @@
 // The first fault of tokens that the grammar of groups reads.
 ghost use Rattle.std.specs.Prelude.{◌≡◌, ◌≤◌, ℕ, length, OnOk, IsErrOf, Some, None};
-ghost use Rattle.std.specs.BTreeMap.{get_by_text};
 ghost use Rattle.query_tokens.specs.declared.piece.TheConstants.{LONGEST_QUERY};
+ghost use Rattle.pattern_parser.specs.Prefixes.{iris};
 ghost use Rattle.pattern_parser.specs.Queries.{term_fault};
 ghost use Rattle.group_faults.specs.declared.fault.GroupWhy.{GroupWhy};
 ghost use Rattle.group_faults.specs.Faults.{basic_or, HasBlockFault, group_fault_with};
@@ -21,9 +21,9 @@ fn bad(at: usize, why: GroupWhy) -> GroupFault
 
 /// Finds the first fault of names and terms, in the tokens from SELECT on and in all.
 fn check_names(prefixes: &Prefixes, words: &[Word], body: &[Word]) -> Result<(), GroupFault>
-    ensures ok { OnOk result (term_fault (λ q. get_by_text prefixes.now q) words.now body.now ≡ None) }
+    ensures ok { OnOk result (term_fault (iris prefixes.now) words.now body.now ≡ None) }
     ensures bad { (w : GroupWhy) (at : ℕ) → IsErrOf result (GroupFault.Bad at w)
-        → basic_or (term_fault (λ q. get_by_text prefixes.now q) words.now body.now) None ≡ Some (w, at) }
+        → basic_or (term_fault (iris prefixes.now) words.now body.now) None ≡ Some (w, at) }
 {
     match check_terms(prefixes, words, body) {
         Ok(()) => Ok(()),
@@ -61,9 +61,9 @@ pub fn check_groups(
     body: &[Word],
 ) -> Result<(), GroupFault>
     requires { length body.now ≤ LONGEST_QUERY }
-    ensures ok { OnOk result (group_fault_with (λ q. get_by_text prefixes.now q) words.now body.now ≡ None) }
+    ensures ok { OnOk result (group_fault_with (iris prefixes.now) words.now body.now ≡ None) }
     ensures bad { (w : GroupWhy) (at : ℕ) → IsErrOf result (GroupFault.Bad at w)
-        → group_fault_with (λ q. get_by_text prefixes.now q) words.now body.now ≡ Some (w, at) }
+        → group_fault_with (iris prefixes.now) words.now body.now ≡ Some (w, at) }
 {
     check_names(prefixes, words, body)?;
     let (_, block) = body.split_at(before_brace(body));

@@ -6,7 +6,7 @@ ghost use Rattle.group_faults.specs.Faults.{triples_in, depth_after, deep_from};
 ghost use Rattle.group_faults.specs.Walks.{runs_from, IsOverIn, GoesBehind, IsOver, GoesOn};
 
 use crate::sign::{is_other, sign_of};
-use pattern_parser::{PatternCount, count_patterns};
+use pattern_parser::{MOST_PATTERNS, PatternCount, count_patterns};
 use query_words::word::{Value, Word};
 
 /// The most groups that are open at once, one inside another.
@@ -56,13 +56,16 @@ impl Walk {
     }
 }
 
-/// The place of the object that completes the 65th pattern of all blocks, if there is one, whatever the
-/// prefixes stand for.
+/// The place of the object that completes a pattern after the first `MOST_PATTERNS` of all blocks, if there
+/// is one, whatever the prefixes stand for.
 pub fn excess_in_groups(words: &[Word]) -> Option<usize>
     ensures { (iri : List ℕ → Option (List ℕ)) (names : List (List ℕ))
         → result ≡ excess (triples_in iri names (runs_of words.now)) }
 {
-    let mut walk = Walk { from: 0, left: 64 };
+    let mut walk = Walk {
+        from: 0,
+        left: MOST_PATTERNS,
+    };
     for i in 0..words.len() {
         if let Some(at) = walk.take(words, i) {
             return Some(at);
