@@ -1,7 +1,7 @@
 // A query with groups from its tokens.
 ghost use Rattle.std.specs.Prelude.{◌≡◌, ◌≤◌, ◌+◌, length, IfOk};
-ghost use Rattle.std.specs.BTreeMap.{get_by_text};
 ghost use Rattle.query_tokens.specs.declared.piece.TheConstants.{LONGEST_QUERY};
+ghost use Rattle.pattern_parser.specs.Prefixes.{iris};
 ghost use Rattle.group_parser.specs.Texts.{is_distinct, has_distinct, IsGroupIn};
 ghost use Rattle.group_parser.specs.Building.{IsProduced};
 
@@ -39,8 +39,8 @@ pub fn build(
     block: &[Word],
 ) -> Result<GroupQuery, OutOfMemory>
     requires few { length select.now + length block.now ≤ LONGEST_QUERY }
-    requires group { IsProduced (λ q. get_by_text prefixes.now q) select.now block.now }
-    ensures { IfOk result (λ g. IsGroupIn (λ q. get_by_text prefixes.now q) select.now block.now g) }
+    requires group { IsProduced (iris prefixes.now) select.now block.now }
+    ensures { IfOk result (λ g. IsGroupIn (iris prefixes.now) select.now block.now g) }
 {
     let mut names = Names::new(alloc);
     let numbers = listed(alloc, &mut names, select)?;

@@ -1,9 +1,9 @@
 // The query with groups that a text is.
 ghost use Rattle.std.specs.Prelude.{◌≡◌, ◌≤◌, ℕ, length, IfOk, OnOk, IsErrOf, Some, None};
-ghost use Rattle.std.specs.BTreeMap.{get_by_text};
 ghost use Rattle.query_tokens.specs.declared.piece.TheConstants.{LONGEST_QUERY};
 ghost use Rattle.query_words.specs.Words.{kinds_of};
 ghost use Rattle.query_grammar.specs.Groups.{IsGroupQuery, ArePlain};
+ghost use Rattle.pattern_parser.specs.Prefixes.{iris};
 ghost use Rattle.pattern_parser.specs.Queries as queries;
 ghost use Rattle.group_faults.specs.declared.fault.GroupWhy.{GroupWhy};
 ghost use Rattle.group_faults.specs.Faults.{group_fault, GroupFaultAt};
@@ -32,7 +32,7 @@ fn query_with(
     requires few { length body.now ≤ LONGEST_QUERY }
     requires query { IsGroupQuery (kinds_of words.now) }
     requires body { body.now ≡ queries.body words.now }
-    requires prefixes { (λ q. get_by_text prefixes.now q) ≡ queries.prefixes words.now }
+    requires prefixes { iris prefixes.now ≡ queries.prefixes words.now }
     ensures fine { OnOk result (group_fault words.now ≡ None) }
     ensures query { IfOk result (λ g. IsGroupText (queries.prefixes words.now) (queries.body words.now) g) }
     ensures bad { (w : GroupWhy) (at : ℕ) → IsErrOf result (GroupFault.Bad at w)

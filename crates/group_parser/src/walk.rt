@@ -4,7 +4,7 @@
 // The steps of the empty group are written last: a Join with it is its other side. So the walk knows of each
 // group that is open whether it is empty so far, and writes `Empty` where UNION or OPTIONAL needs it.
 ghost use Rattle.std.specs.Prelude.{◌≡◌, ◌<◌, ◌≤◌, ◌+◌, ◌-◌, ◌^◌, [], length, IfOk, OnOk};
-ghost use Rattle.std.specs.BTreeMap.{get_by_text};
+ghost use Rattle.pattern_parser.specs.Prefixes.{iris};
 ghost use Rattle.pattern_parser.specs.Numbers.{AreNumbered};
 ghost use Rattle.pattern_parser.specs.Items.{names_after};
 ghost use Rattle.group_parser.specs.Walks.{begun, with_empty, joined, is_pending_empty, pending_by, settled, ready, entered, opened, with_last, left, closed, with_sign, with_block, with_patterns, with_run, finished, walked_from, names_read, steps_read};
@@ -247,8 +247,7 @@ impl Walk {
     ) -> Result<(), OutOfMemory>
         requires numbered { AreNumbered names.old }
         requires few { length names.old.texts.items + length run.now < 2 ^ 32 - 1 }
-        ensures walk { OnOk result (self.new ≡
-            with_run (λ q. get_by_text prefixes.now q) names.old.texts.items run.now self.old) }
+        ensures walk { OnOk result (self.new ≡ with_run (iris prefixes.now) names.old.texts.items run.now self.old) }
         ensures names { OnOk result (names.new.texts.items ≡ names_after names.old.texts.items 0 run.now) }
         ensures numbered { OnOk result (AreNumbered names.new) }
         ensures few { OnOk result (length names.new.texts.items ≤ length names.old.texts.items + length run.now) }
@@ -279,7 +278,7 @@ impl Walk {
         requires numbered { AreNumbered names.old }
         requires few { length names.old.texts.items + length run.now < 2 ^ 32 - 1 }
         ensures walk { OnOk result (self.new ≡
-            with_sign sign (with_run (λ q. get_by_text prefixes.now q) names.old.texts.items run.now self.old)) }
+            with_sign sign (with_run (iris prefixes.now) names.old.texts.items run.now self.old)) }
         ensures names { OnOk result (names.new.texts.items ≡ names_after names.old.texts.items 0 run.now) }
         ensures numbered { OnOk result (AreNumbered names.new) }
         ensures few { OnOk result (length names.new.texts.items ≤ length names.old.texts.items + length run.now) }
@@ -315,8 +314,8 @@ fn take_token(
     requires numbered { AreNumbered names.old }
     requires few { length names.old.texts.items + (i - from) < 2 ^ 32 - 1 }
     ensures walk { IfOk result (λ next.
-        walked_from (λ q. get_by_text prefixes.now q) names.new.texts.items walk.new next (i + 1) words.now
-        ≡ walked_from (λ q. get_by_text prefixes.now q) names.old.texts.items walk.old from i words.now) }
+        walked_from (iris prefixes.now) names.new.texts.items walk.new next (i + 1) words.now
+        ≡ walked_from (iris prefixes.now) names.old.texts.items walk.old from i words.now) }
     ensures begun { IfOk result (λ next. (from ≤ next) × (next ≤ i + 1)) }
     ensures numbered { OnOk result (AreNumbered names.new) }
     ensures few { IfOk result (λ next. length names.new.texts.items + from ≤ length names.old.texts.items + next) }
@@ -339,10 +338,9 @@ pub fn steps_of(
 ) -> Result<Vec<Step>, OutOfMemory>
     requires numbered { AreNumbered names.old }
     requires few { length names.old.texts.items + length words.now < 2 ^ 32 - 1 }
-    ensures steps { IfOk result (λ v. v.items ≡
-        steps_read (λ q. get_by_text prefixes.now q) names.old.texts.items words.now) }
+    ensures steps { IfOk result (λ v. v.items ≡ steps_read (iris prefixes.now) names.old.texts.items words.now) }
     ensures names { OnOk result (names.new.texts.items ≡
-        names_read (λ q. get_by_text prefixes.now q) names.old.texts.items words.now) }
+        names_read (iris prefixes.now) names.old.texts.items words.now) }
     ensures few { OnOk result (length names.new.texts.items ≤ length names.old.texts.items + length words.now) }
 {
     let mut walk = Walk::new(alloc);
