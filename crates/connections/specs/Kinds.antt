@@ -1,9 +1,9 @@
 -- What a kind of connection means, and what each call does in its terms.
 use Rattle.std.specs.Prelude.{ℕ, ◌≡◌, ◌⊎◌, ◌≤◌, ◌<◌, Bool, true, false, List, [], ◌∷◌, ◌++◌, length, take}
 use Rattle.std.specs.List.{AllByRecursion}
-use Rattle.connections.specs.declared.connection.TheConstants.{ENOUGH_PENDING}
 use Rattle.connections.specs.declared.reloaded.Reloaded.{Reloaded}
 use Rattle.connections.specs.declared.reloaded.Reloaded.TheVariants as outcomes
+use Rattle.tpf_base.specs.declared.limits.TheConstants.{ENOUGH_PENDING}
 use Rattle.tpf_base.specs.Marks.{Mark, Served, Failed, Starved, version_at}
 use Rattle.connections.specs.Versions.{Serving, IsHistory}
 

@@ -6,9 +6,6 @@ use crate::{Reloaded, Serves};
 use std::alloc::Global;
 use tpf_base::OutOfMemory;
 
-/// How many bytes of the response are made before they are sent, where so many are owed.
-pub const ENOUGH_PENDING: usize = 65536;
-
 /// A connection: from the bytes that come to those of the response.
 ///
 /// After `OutOfMemory` nothing is promised of it: it can only be closed.

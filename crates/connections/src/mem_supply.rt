@@ -51,12 +51,14 @@ impl<V: Serves> Supply<V> for MemSupply<V::Table> {
     /// The first table that is left. `Failed` exactly where the call is due, or none is left, and then
     /// what is left stays; out of memory never comes.
     fn next(&mut self) -> Result<V::Table, Fault>
-        ensures first { IfOk result (λ table. Some (map V.data_of (tables_left self.old)) ≡ with_first (V.data_of table) (Some (map V.data_of (tables_left self.new)))) }
+        ensures first { IfOk result (λ table. Some (map V.data_of (tables_left self.old))
+            ≡ with_first (V.data_of table) (Some (map V.data_of (tables_left self.new)))) }
         ensures rest { IfOk result (λ table. tables_left self.old ≡ table ∷ tables_left self.new) }
         ensures err { OnErr result (tables_left self.new ≡ tables_left self.old) }
         ensures cause { HasCause (supply_counts self.old).faults (supply_counts self.new).faults result }
         ensures memory { result ≢ Err Fault.OutOfMemory }
-        ensures failed { IsErrOf result Fault.Failed ↔ ((is_next_due (supply_counts self.old) 0 ≡ true) ⊎ (tables_left self.old ≡ [])) }
+        ensures failed { IsErrOf result Fault.Failed
+            ↔ ((is_next_due (supply_counts self.old) 0 ≡ true) ⊎ (tables_left self.old ≡ [])) }
         ensures counts { CountsCall (supply_counts self.old) (supply_counts self.new) result }
     {
         if self.failures.is_next_due(0) {

@@ -34,7 +34,8 @@ pub trait Serves {
     fn reload(&mut self, table: Self::Table) -> Result<u64, OutOfMemory>
         requires { (serving self.old).version < MOST_VERSIONS }
         ensures number { IfOk result (λ number. number ≡ (serving self.old).version + 1) }
-        ensures ok { IfOk result (λ number. serving self.new ≡ record (serving self.old) { data_set = data_of table; version = number }) }
+        ensures ok { IfOk result (λ number. serving self.new
+            ≡ record (serving self.old) { data_set = data_of table; version = number }) }
         ensures err { OnErr result (serving self.new ≡ serving self.old) }
         ensures follows { Follows self.old self.new };
 

@@ -24,7 +24,8 @@ pub trait Supply<V: Serves> {
     /// is left stays.
     fn next(&mut self) -> Result<V::Table, Fault>
         ensures given { IfOk result (λ table. may self.old (V.data_of table)) }
-        ensures first { IfOk result (λ table. (state self.old).left ≡ with_first (V.data_of table) (state self.new).left) }
+        ensures first { IfOk result (λ table. (state self.old).left
+            ≡ with_first (V.data_of table) (state self.new).left) }
         ensures err { OnErr result ((state self.new).left ≡ (state self.old).left) }
         ensures same { (data_set : V.Data) → may self.new data_set ↔ may self.old data_set }
         ensures keeps { Keeps self.old self.new }

@@ -2,6 +2,7 @@
 use Rattle.std.proofs.Common.{ℕ, zero, suc, ◌≡◌, ◌<◌, ◌++◌, Bool, true, List, [], ◌∷◌, length, set, get_or, Option, Some, None, refl, ap, sym, subst, ◌∙◌, arith}
 use Rattle.std.specs.List.{AllByRecursion}
 use Rattle.std.proofs.lemmas.List.{map-set, get_or-map, length-map, get_or-set_same}
+use Rattle.list_laws.proofs.Each.{all_more}
 use Rattle.connections.specs.Kinds.{Kind}
 use Rattle.connections.specs.Versions.{Serving}
 use Rattle.loop_wire.specs.declared.link.LoopLink.{LoopLink}
@@ -17,10 +18,6 @@ pub all_set : {X : Type 0} (P : X → Type 0) (xs : List X) (k : ℕ) (x : X) �
 all_set P [] k x all here = tt
 all_set P (y ∷ ys) zero x all here = (here, all.1)
 all_set P (y ∷ ys) (suc k) x all here = (all.0, all_set P ys k x all.1 here)
-
-pub all_push : {X : Type 0} (P : X → Type 0) (xs : List X) (x : X) → AllByRecursion P xs → P x → AllByRecursion P (xs ++ x ∷ [])
-all_push P [] x all here = (here, tt)
-all_push P (y ∷ ys) x all here = (all.0, all_push P ys x all.1 here)
 
 module _ {C : Type 0} where
   -- what is held of a link at its number
@@ -140,7 +137,7 @@ module _ {C Server Data Settings : Type 0} (kind : Kind C Data Settings) (Suits 
   served_set links k l all here = all_set (λ (x : LoopLink C). Served x) links k l all here
 
   pub served_push : (links : List (LoopLink C)) (l : LoopLink C) → AreServed kind Suits serving response_at there links → Served l → AreServed kind Suits serving response_at there (links ++ l ∷ [])
-  served_push links l all here = all_push (λ (x : LoopLink C). Served x) links l all here
+  served_push links l all here = all_more (λ (x : LoopLink C). Served x) links l all here
 
   pub served_settled : (l l' : LoopLink C) → l'.held ≡ settled l.held → l'.connection ≡ l.connection → Served l → Served l'
   served_settled l l' is same s = record {

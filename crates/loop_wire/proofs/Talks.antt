@@ -1,14 +1,14 @@
 -- A link, its connection and what is owed.
-use Rattle.std.proofs.Common.{ℕ, zero, suc, ◌≡◌, ◌<◌, ◌≤◌, ◌+◌, ◌-◌, ◌++◌, Bool, true, false, List, [], ◌∷◌, length, take, replicate, nat_lt, ◌==◌, if◌then◌else◌, Option, Some, Result, Ok, Err, OnOk, is_err, refl, ap, sym, subst, ◌∙◌, length-append, arith}
-use Rattle.std.proofs.lemmas.List.{append-nil, take-append-le, length-take-le, length-replicate}
+use Rattle.std.proofs.Common.{ℕ, zero, suc, ◌≡◌, ◌<◌, ◌≤◌, ◌+◌, ◌-◌, ◌++◌, Bool, true, false, List, [], length, take, nat_lt, ◌==◌, if◌then◌else◌, Option, Some, Result, Ok, Err, OnOk, is_err, refl, ap, sym, subst, ◌∙◌, length-append, arith}
+use Rattle.std.proofs.lemmas.List.{append-nil, take-append-le, length-take-le}
 use Rattle.std.proofs.Math.Seq.{take-append-add}
 use Rattle.std.proofs.lemmas.Grind.{common_steps}
-use Rattle.std.proofs.lemmas.Bool.Decides.{nat_tests}
 use Rattle.tpf_base.specs.Links.{Receiving, IsRipe, ToSend, ToReceive, is_short}
 use Rattle.tpf_base.specs.declared.wire.Moved.{Moved}
 use Rattle.tpf_base.specs.declared.wire.Moved.TheVariants as answers
 use Rattle.connections.specs.Kinds.{Kind, IsWhole}
-use Rattle.connections.specs.Versions.{Serving, IsHistory}
+use Rattle.connections.specs.Versions.{Serving}
+use Rattle.connections.proofs.Histories.{some_history}
 use Rattle.loop_wire.specs.Response.{Answering, IsResponse, BeginsAt, Continues, Stays, Lasts}
 use Rattle.loop_wire.specs.Held.{Held, told, settled, stalled_at, sent_more, received_more, ended_now, closed, woken_now, IsHeld, IsTalking, Talks, IsKept, Gives}
 
@@ -46,19 +46,6 @@ not_below n = grind (arith, common_steps)
 
 pub is_over : (r : ℕ) (owed : List ℕ) → take r owed ≡ owed → nat_lt (length (take r owed)) (length owed) ≡ false
 is_over r owed all = rw (all) (not_below (length owed))
-
--- ---- a history
-
--- some history ends with what is served
-pub some_history : {Data Settings : Type 0} (serving : Serving Data Settings) → 1 ≤ serving.version → (history : List Data) × IsHistory history serving
-some_history serving first = (
-  replicate (serving.version - 1) serving.data_set ++ serving.data_set ∷ [],
-  record {
-    count = length-append (replicate (serving.version - 1) serving.data_set) (serving.data_set ∷ []) ∙ ap (λ n. n + 1) (length-replicate (serving.version - 1) serving.data_set) ∙ omega (arith, first);
-    before = replicate (serving.version - 1) serving.data_set;
-    last = refl;
-  },
-)
 
 module _ {C Data Settings : Type 0} where
   -- ---- a connection
@@ -199,16 +186,6 @@ on_ok P (Err e) here fine = absurd cc
 pub some_there : (n : ℕ) (b : Bool) → b ≡ (n == 0) → b ≡ false → 0 < n
 some_there zero b is not_so = absurd cc
 some_there (suc n) b is not_so = omega arith
-
-zero_there : (n : ℕ) (b : Bool) → b ≡ (n == 0) → b ≡ true → n ≡ 0
-zero_there n b is so = let e : (n == 0) ≡ true = sym is ∙ so in grind (arith, nat_tests, e)
-
-nil_there : (xs : List ℕ) → length xs ≡ 0 → xs ≡ []
-nil_there [] none = refl
-nil_there (x ∷ xs) none = absurd (omega arith)
-
-pub none_there : (xs : List ℕ) (b : Bool) → b ≡ (length xs == 0) → b ≡ true → xs ≡ []
-none_there xs b is so = nil_there xs (zero_there (length xs) b is so)
 
 -- nothing is there to be received
 pub gives_nothing : (owes : List ℕ → List ℕ) (most : ℕ) (stalls ends : Bool) (to : List ℕ) (old new : Held) (answer : Moved)

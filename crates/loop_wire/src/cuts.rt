@@ -1,21 +1,25 @@
 // How moves are cut, which stall, and what is counted of them.
 ghost use Rattle.std.specs.Prelude.{◌≡◌, ◌+◌, ◌<◌, ◌≤◌, ◌%◌, ◌==◌, ◌&&◌, not};
 ghost use Rattle.rand_pcg.specs.Pcg.{pcg32};
+ghost use Rattle.loop_wire.specs.declared.cuts.TheConstants.{MOST_CUT};
 ghost use Rattle.loop_wire.specs.Looped.{moved_by, woke_after};
 
 use rand_core::utils::NextWord;
 use rand_pcg::Pcg32;
 use tpf_base::Moved;
 
-/// The most bytes that one call moves: from 1 to 4096.
+/// The most bytes that a call moves, where it is not cut shorter.
+pub const MOST_CUT: u32 = 4096;
+
+/// The most bytes that one call moves: from 1 to `MOST_CUT`.
 pub fn cut(generator: &mut Pcg32) -> usize
     ensures least { 1 ≤ result }
-    ensures most { result ≤ 4096 }
+    ensures most { result ≤ MOST_CUT }
     ensures step { generator.new ≡ (pcg32 generator.old).1 }
-    ensures value { result ≡ (pcg32 generator.old).0 % 4096 + 1 }
+    ensures value { result ≡ (pcg32 generator.old).0 % MOST_CUT + 1 }
 {
     let word = generator.next_word();
-    (word % 4096) as usize + 1
+    (word % MOST_CUT) as usize + 1
 }
 
 /// Whether a call stalls: about one in four does, and none on a link that a wait answered before.

@@ -32,6 +32,7 @@ mod talk;
 mod wire;
 
 pub use behind::{Behind, One, Servers, Several};
+pub use cuts::MOST_CUT;
 pub use responds::RespondsAt;
 pub use stands::StandsAt;
 pub use wire::LoopWire;

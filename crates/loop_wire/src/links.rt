@@ -133,7 +133,8 @@ pub fn receive<C: RespondsAt, B: Behind<C>>(
     requires most { 0 < most }
     requires room { 0 < length to.old }
     requires kept { AreServed C.kind C.Suits C.Server.serving C.response_at (B.server_of servers.now) links.old }
-    ensures gives { Gives (owed_to C.response_at C.Server.serving B.server_of servers.now (get_or (held_of links.old) k no_link).peer)
+    ensures gives { Gives
+        (owed_to C.response_at C.Server.serving B.server_of servers.now (get_or (held_of links.old) k no_link).peer)
         most stalls to.new (get_or (held_of links.old) k no_link) (get_or (held_of links.new) k no_link) result }
     ensures held { held_of links.new ≡ set (held_of links.old) k (get_or (held_of links.new) k no_link) }
     ensures kept { AreServed C.kind C.Suits C.Server.serving C.response_at (B.server_of servers.now) links.new }

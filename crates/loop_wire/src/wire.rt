@@ -30,9 +30,9 @@ const STREAM: u64 = 54;
 /// its own, and a dial to any other fails.
 ///
 /// It tells all of each link. What is owed is the response to what was sent; a reload request is
-/// answered as one that failed, since this wire has no other data. A call moves 1 to 4096 bytes, about
-/// one in four stalls (it would block), and a wait answers some ripe link (one that is ready): sizes,
-/// stalls and order come from the seed.
+/// answered as one that failed, since this wire has no other data. A call moves 1 to `MOST_CUT` (4096)
+/// bytes, about one in four stalls (it would block), and a wait answers some ripe link (one that is
+/// ready): sizes, stalls and order come from the seed.
 ///
 /// The calls of `send`, `recv`, `dial` and `wait` count, also one that ends in out of memory, and
 /// fail where its `Failing` says so, whichever server is called; a dial counts among the dials too. A

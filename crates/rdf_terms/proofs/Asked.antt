@@ -1,5 +1,5 @@
 -- Slots that a server is asked for, and the others.
-use Rattle.std.proofs.Common.{◌≡◌, Bool, true, false, ◌&&◌, List, [], ◌∷◌, if◌then◌else◌, refl, sym, ◌∙◌, ap}
+use Rattle.std.proofs.Common.{◌≡◌, Bool, true, false, List, [], ◌∷◌, refl, sym, ◌∙◌, ap}
 use Rattle.std.specs.List.{AllByRecursion, filter}
 use Rattle.list_laws.proofs.Tests.{all_three, and_first, and_second}
 use Rattle.rdf_terms.specs.declared.term.Term.{Term}
@@ -12,8 +12,8 @@ use Rattle.rdf_terms.specs.Triples.{IsIri, IsIriOrLiteral, IsGroundTriple}
 use Rattle.rdf_terms.specs.Slots.{matches_slot, matches, order_of}
 use Rattle.rdf_terms.specs.Same.{term_eq}
 use Rattle.rdf_terms.specs.Fragments.{sorted, fragment}
-use Rattle.rdf_terms.specs.Valid.{IsValidTerm, IsNotBlank}
-use Rattle.rdf_terms.specs.Kept.{IsValidSlot, IsKeptTerm, IsKeptSlot, AreValid, AreKept}
+use Rattle.rdf_terms.specs.Valid.{IsNotBlank}
+use Rattle.rdf_terms.specs.Kept.{IsValidSlot, IsKeptSlot}
 use Rattle.rdf_terms.specs.Askable.{is_iri_term, is_iri_or_literal, slot_allows, askable, AskableAreKept, UnaskedMatchNothing}
 
 -- ---- kept slots

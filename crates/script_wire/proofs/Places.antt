@@ -1,15 +1,12 @@
 -- Scripts and links by their number.
-use Rattle.std.proofs.Common.{ℕ, zero, suc, true, [], ◌∷◌, arith, ◌≡◌, ◌<◌, List, length, get_or, slice_get, Some, ap, sym, ◌∙◌}
+use Rattle.std.proofs.Common.{ℕ, zero, suc, true, [], ◌∷◌, arith, ◌≡◌, ◌<◌, List, length, get_or, slice_get, Some, sym, ◌∙◌}
 use Rattle.std.proofs.lemmas.List.{get_or_default}
-use Rattle.std.proofs.lemmas.Option.{get_or_from_slice_get, slice_get-get_or}
+use Rattle.std.proofs.lemmas.Option.{get_or_from_slice_get}
 use Rattle.script_wire.specs.Scripts.{Scripted, no_link}
 
 -- what stands at a place that was read
 pub script_at : {A : Type 0} (xs : List A) (k : ℕ) (x d : A) → slice_get xs k ≡ Some x → d ≡ get_or xs k d → d ≡ x
 script_at xs k x d at is = is ∙ get_or_from_slice_get xs k x d at
-
-pub read_at : {A : Type 0} (xs : List A) (k : ℕ) (d : A) → k < length xs → d ≡ get_or xs k d → slice_get xs k ≡ Some d
-read_at xs k d below is = slice_get-get_or xs k d below ∙ ap Some (sym is)
 
 -- the same at any default
 pub held_at : {A : Type 0} (xs : List A) (k : ℕ) (x d : A) → k < length xs → x ≡ get_or xs k x → get_or xs k d ≡ x

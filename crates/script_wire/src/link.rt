@@ -187,8 +187,8 @@ impl ScriptLink {
         requires some { (there : ℕ) → 0 < there → 0 < room failures.now.failing moved there }
         ensures answer { result ≢ Moved.OutOfMemory → result
             ≡ answer_of (room_at failures.now.failing moved script.now (length to.old) self.old.place) }
-        ensures taken { result ≢ Moved.OutOfMemory → self.new
-            ≡ taken_piece script.now (room_at failures.now.failing moved script.now (length to.old) self.old.place) self.old }
+        ensures taken { result ≢ Moved.OutOfMemory → self.new ≡ taken_piece script.now
+            (room_at failures.now.failing moved script.now (length to.old) self.old.place) self.old }
         ensures later { self.old.stalls ≤ self.new.stalls }
         ensures memory { result ≡ Moved.OutOfMemory → self.new ≡ self.old }
         ensures bytes { (n : ℕ) → result ≡ Moved.Moved n → (n ≤ length to.new) × (take n to.new
@@ -225,10 +225,10 @@ impl ScriptLink {
         to: &mut [u8],
     ) -> Moved
         requires some { (there : ℕ) → 0 < there → 0 < room failures.now.failing moved there }
-        ensures answer { result ≢ Moved.OutOfMemory → result
-            ≡ answer_to_receive script.now spoken (room_at failures.now.failing moved script.now (length to.old) self.old.place) self.old.place }
-        ensures after { result ≢ Moved.OutOfMemory → self.new
-            ≡ after_receive script.now spoken (room_at failures.now.failing moved script.now (length to.old) self.old.place) self.old }
+        ensures answer { result ≢ Moved.OutOfMemory → result ≡ answer_to_receive script.now spoken
+            (room_at failures.now.failing moved script.now (length to.old) self.old.place) self.old.place }
+        ensures after { result ≢ Moved.OutOfMemory → self.new ≡ after_receive script.now spoken
+            (room_at failures.now.failing moved script.now (length to.old) self.old.place) self.old }
         ensures never { result ≢ Moved.Failed }
         ensures later { self.old.stalls ≤ self.new.stalls }
         ensures memory { result ≡ Moved.OutOfMemory → self.new ≡ self.old }

@@ -45,7 +45,7 @@ fn count_spoken(links: &[ScriptLink]) -> u64
 }
 
 /// The first link on which something may come.
-#[tactic(auto, using(crate::proofs::Places::read_at))]
+#[tactic(auto, using(list_laws::proofs::Lists::at_place))]
 fn first_to_move(scripts: &[Script], links: &[ScriptLink], spoken: u64) -> Option<usize>
     requires all { length links.now ≤ length scripts.now }
     requires spoken { spoken ≡ spoken_on links.now }
@@ -213,7 +213,8 @@ impl Wire for ScriptWire {
         ensures answer { is_due_on self.old ≡ false → result ≢ Moved.OutOfMemory
             → (script : Script) → slice_get (scripts_of self.old) link ≡ Some script
             → ReceivesBy script (spoken_on (links_of self.old))
-            (room_at (counts_of self.old).failing (moved_of self.old) script (length to.old) (get_or (links_of self.old) link no_link).place)
+            (room_at (counts_of self.old).failing (moved_of self.old) script (length to.old)
+            (get_or (links_of self.old) link no_link).place)
             link (links_of self.old) (links_of self.new) to.new result }
         ensures memory { result ≡ Moved.OutOfMemory → links_of self.new ≡ links_of self.old }
         ensures counts { counts_of self.new ≡ called (is_due_on self.old) (counts_of self.old) }
@@ -317,8 +318,9 @@ impl Dial for ScriptWire {
         ensures unscripted { length (scripts_of self.old) ≤ length (links_of self.old) → IsErrOf result Fault.Failed }
         ensures failed { IsErrOf result Fault.Failed → is_dial_due_on self.old ≡ false
             → length (scripts_of self.old) ≤ length (links_of self.old) }
-        ensures counts { counts_of self.new
-            ≡ dialled (is_dial_due_on self.old || nat_le (length (scripts_of self.old)) (length (links_of self.old))) (counts_of self.old) }
+        ensures counts { counts_of self.new ≡ dialled
+            (is_dial_due_on self.old || nat_le (length (scripts_of self.old)) (length (links_of self.old)))
+            (counts_of self.old) }
         ensures links { OnOk result (links_of self.new ≡ links_of self.old ++ new_link (Some (host.now, port)) ∷ []) }
         ensures ok { IfOk result (λ number. GivesDialled host.now port number (state_of self.old) (state_of self.new)) }
         ensures err { OnErr result (GivesNone (state_of self.old) (state_of self.new)) }

@@ -1,5 +1,5 @@
 -- The bytes of an address and of its parts, and its port.
-use Rattle.std.proofs.Common.{ℕ, ◌≡◌, ◌<◌, ◌≤◌, Bool, true, not, ◌==◌, List, [], ◌∷◌, Option, Some, None, nat_le, inl, inr, refl, arith}
+use Rattle.std.proofs.Common.{ℕ, ◌≡◌, ◌<◌, ◌≤◌, true, not, ◌==◌, List, [], ◌∷◌, Option, Some, None, nat_le, inl, inr, refl, arith}
 use Rattle.std.specs.List.{list_all}
 use Rattle.std.proofs.lemmas.Bool.{and_from, leb-true}
 use Rattle.std.proofs.lemmas.Bool.Decides.{nat_tests}

@@ -1,6 +1,7 @@
 use Rattle.std.proofs.Common.{◌≡◌, ◌<◌, [], Some, length}
+use Rattle.list_laws.proofs.Lists.{none_there}
 use Rattle.loop_wire.specs.Held.{received_more}
-use Rattle.loop_wire.proofs.Talks.{on_ok, some_there, none_there, talks_as, pends, all_received, is_left, gives_nothing, gives_stall, gives_bytes, kept_nothing, kept_stall, kept_received, kept_as}
+use Rattle.loop_wire.proofs.Talks.{on_ok, some_there, talks_as, pends, all_received, is_left, gives_nothing, gives_stall, gives_bytes, kept_nothing, kept_stall, kept_received, kept_as}
 use Rattle.loop_wire.proofs.link.LoopLink.receive.Goals as goal
 
 pub returns-then-is_empty-clause-kept : goal.returns-then-is_empty-clause-kept
