@@ -1,5 +1,6 @@
 -- How often a link is held, after calls on one link.
 use Rattle.std.proofs.Common.{ℕ, ◌≡◌, ◌≢◌, ◌+◌, ◌<◌, ◌≤◌, ◌==◌, ◌⊎◌, inl, inr, ◌++◌, List, [], ◌∷◌, Option, Some, None, Bool, true, false, refl, sym, ◌∙◌, ap, subst, arith, if◌then◌else◌}
+use Rattle.std.proofs.lemmas.Bool.{cases_eq}
 use Rattle.std.proofs.lemmas.Bool.Decides.{eqb_tells}
 use Rattle.tpf_base.specs.Addresses.{Address}
 use Rattle.tpf_base.specs.Links.{Link, WireState, OpensGiven}
@@ -9,9 +10,6 @@ use Rattle.exchange.specs.Polls.{LinkAfter}
 use Rattle.request_pool.specs.declared.asks.Flight.{Flight}
 use Rattle.request_pool.specs.declared.asks.Spare.{Spare}
 use Rattle.request_pool.specs.Owned.{on_link, flights_on, spare_on, times_open, open_on}
-
-pub at_or_off : (i k : ℕ) → (i ≡ k) ⊎ (i ≢ k)
-at_or_off i k = elim (eqb_tells i k) [ inl h ↦ inl h.1 | inr h ↦ inr h.1 ]
 
 test_same : (b : Bool) (i k : ℕ) → ((b ≡ true) × (i ≡ k)) ⊎ ((b ≡ false) × (i ≢ k)) → i ≡ k → ◌≡◌ {A = ℕ} (if b then 1 else 0) 1
 test_same true i k h e = refl
@@ -92,15 +90,15 @@ pub rest_after : (p : Option ℕ) (a b : WireState) → ((k : ℕ) → p ≢ Som
 rest_after None a b same o rest h none k =
     omega (arith, h k, same_open a b k (same k (λ e. cc e)))
 rest_after (Some i) a b same o rest h none k =
-    elim (at_or_off i k) [ inl e ↦ omega (arith, none k (ap Some e)) | inr n ↦ omega (arith, h k, same_open a b k (same k (some_off i k n))) ]
+    elim (cases_eq i k) [ inl e ↦ omega (arith, none k (ap Some e)) | inr n ↦ omega (arith, h k, same_open a b k (same k (some_off i k n))) ]
 
 -- and the exchange's own link may be held where it is open
 pub own_after : (p : Option ℕ) (b : WireState) (rest : ℕ → ℕ) → ((k : ℕ) → rest k ≤ open_on b k) → ((k : ℕ) → p ≡ Some k → rest k ≡ 0) → IsLinked p b → (k : ℕ) → on_link p k + rest k ≤ open_on b k
 own_after None b rest h none linked k = omega (arith, h k)
 own_after (Some i) b rest h none linked k =
-    elim (at_or_off i k) [ inl e ↦ omega (arith, on_same i k e, none k (ap Some e), ap times_open (subst (λ (x : ℕ). (b.links x).is_open ≡ true) e linked)) | inr n ↦ omega (arith, h k, on_other i k n) ]
+    elim (cases_eq i k) [ inl e ↦ omega (arith, on_same i k e, none k (ap Some e), ap times_open (subst (λ (x : ℕ). (b.links x).is_open ≡ true) e linked)) | inr n ↦ omega (arith, h k, on_other i k n) ]
 
 -- a link that no other holds is closed
 pub rest_closed : (i : ℕ) (a b : WireState) → Closes i a b → (rest : ℕ → ℕ) → ((k : ℕ) → rest k ≤ open_on a k) → rest i ≡ 0 → (k : ℕ) → rest k ≤ open_on b k
 rest_closed i a b c rest h none k =
-    elim (at_or_off i k) [ inl e ↦ (let z : rest k ≡ 0 = subst (λ (x : ℕ). rest x ≡ 0) e none in omega (arith, z)) | inr n ↦ omega (arith, h k, same_open a b k (c.only.others k (λ e. n (sym e)))) ]
+    elim (cases_eq i k) [ inl e ↦ (let z : rest k ≡ 0 = subst (λ (x : ℕ). rest x ≡ 0) e none in omega (arith, z)) | inr n ↦ omega (arith, h k, same_open a b k (c.only.others k (λ e. n (sym e)))) ]

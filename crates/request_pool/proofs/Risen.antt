@@ -1,6 +1,6 @@
 -- What holds at each moment of a run: the links that are held are open, and the stalls of each exchange that was polled have risen.
 use Rattle.std.proofs.Common.{ℕ, ◌≡◌, ◌≢◌, ◌<◌, ◌≤◌, inl, inr, ◌++◌, List, [], ◌∷◌, Option, Some, None, Bool, true, false, Result, Ok, Err, refl, sym, ◌∙◌, ap, subst, arith}
-use Rattle.std.proofs.lemmas.Bool.{cases_lt}
+use Rattle.std.proofs.lemmas.Bool.{cases_lt, cases_eq}
 use Rattle.std.specs.List.{AllByRecursion}
 use Rattle.futures.specs.declared.task.Poll.{Poll}
 use Rattle.futures.specs.declared.task.Poll.TheVariants as poll
@@ -21,7 +21,7 @@ use Rattle.request_pool.specs.Owned.{on_link, flights_on, held_on, SuitsWire}
 use Rattle.request_pool.specs.Polls.{Polls, FlightTo}
 use Rattle.request_pool.specs.Runs.{Starts, Overruns, Flies, Starves, Turn, Start, Next, Round, Moment, Runs, Running, is_end}
 use Rattle.request_pool.specs.Steps.{RisenOn, AsleepOn}
-use Rattle.request_pool.proofs.Owned.{at_or_off, on_same, linked_open, flights_on-append, rest_none}
+use Rattle.request_pool.proofs.Owned.{on_same, linked_open, flights_on-append, rest_none}
 use Rattle.request_pool.proofs.Suits.{Owns, owns_begun, owns_next, flight_suits, underway-append, suits_as}
 use Rattle.request_pool.proofs.Holding.{end_of}
 
@@ -45,7 +45,7 @@ some_is i k e = cc
 later_link : (address : Address) (o p : Option ℕ) (a b : WireState) → LinkAfter address o p a b → ((k : ℕ) → p ≢ Some k → b.links k ≡ a.links k) → Later a b
 later_link address (Some j) (Some i) a b l same = record {
   given = omega (arith, l.1);
-  stalls = λ k h. elim (at_or_off j k) [ inl e ↦ subst (λ (x : ℕ). (a.links x).stalls ≤ (b.links x).stalls) e l.4 | inr n ↦ same_stalls a b k (same k (λ e. n (sym l.0 ∙ some_is i k e))) ];
+  stalls = λ k h. elim (cases_eq j k) [ inl e ↦ subst (λ (x : ℕ). (a.links x).stalls ≤ (b.links x).stalls) e l.4 | inr n ↦ same_stalls a b k (same k (λ e. n (sym l.0 ∙ some_is i k e))) ];
 }
 later_link address (Some j) None a b l same = absurd l
 later_link address None None a b l same = record { given = omega (arith, l.0); stalls = λ k h. same_stalls a b k (same k (λ e. cc e)) }

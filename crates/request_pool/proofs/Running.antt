@@ -1,5 +1,6 @@
 -- Runs, one behind another.
-use Rattle.std.proofs.Common.{◌≡◌, ◌++◌, List, [], ◌∷◌, Result, Bool, true, false, refl, sym, subst}
+use Rattle.std.proofs.Common.{◌≡◌, ◌++◌, List, [], ◌∷◌, Result, true, false, refl, sym, subst}
+use Rattle.std.proofs.lemmas.Bool.{both_ways}
 use Rattle.tpf_base.specs.Links.{WireState}
 use Rattle.request_pool.specs.declared.fault.Polled.{Polled}
 use Rattle.request_pool.specs.declared.fault.PoolFault.{PoolFault}
@@ -33,18 +34,14 @@ pub to_then : (result : Result Polled PoolFault) (p q r : Pooled) (a b c : WireS
 to_then result p q r a b c h (GoesOn e i) = GoesOn e (running_then p q r a b c h i)
 to_then result p q r a b c h (Ends e i) = Ends e (ended_then result p q r a b c h i)
 
-no_end : (x : Bool) → x ≡ false → x ≡ true → ⊥
-no_end true e f = cc
-no_end false e f = cc
-
 -- a run that is not at its end goes on
 pub went_on : (result : Result Polled PoolFault) (p q : Pooled) (a b : WireState) → is_end result ≡ false → RunsTo result p q a b → Running p q a b
 went_on result p q a b e (GoesOn f h) = h
-went_on result p q a b e (Ends f h) = absurd (no_end (is_end result) e f)
+went_on result p q a b e (Ends f h) = absurd (both_ways (is_end result) e f)
 
 pub ended : (result : Result Polled PoolFault) (p q : Pooled) (a b : WireState) → is_end result ≡ true → RunsTo result p q a b → Ended result p q a b
 ended result p q a b e (Ends f h) = h
-ended result p q a b e (GoesOn f h) = absurd (let q : is_end result ≡ false = subst (λ (x : Result Polled PoolFault). is_end x ≡ false) (sym f) refl in no_end (is_end result) q e)
+ended result p q a b e (GoesOn f h) = absurd (let q : is_end result ≡ false = subst (λ (x : Result Polled PoolFault). is_end x ≡ false) (sym f) refl in both_ways (is_end result) q e)
 
 pub ends_after : (result : Result Polled PoolFault) (p q r : Pooled) (a b c : WireState) → Running p q a b → is_end result ≡ true → Last result q r b c → RunsTo result p r a c
 ends_after result p q r a b c h e l = Ends e (record { mid = q; between = b; running = h; last = l })

@@ -25,7 +25,8 @@ use Rattle.request_pool.specs.Owned.{on_link, flights_on, spare_on, held_on, tim
 use Rattle.request_pool.specs.Polls.{Shuts, Settles, NoLink, Kept, Shut, TakesLink, Polls, FlightTo}
 use Rattle.request_pool.specs.Runs.{Begins, Starts, Overruns, Flies, Starves, PollsNext}
 use Rattle.request_pool.specs.Steps.{IsWait}
-use Rattle.request_pool.proofs.Owned.{at_or_off, on_same, one_at_most, flights_on-append, spare_on-append, rest_none, rest_after, own_after, rest_closed}
+use Rattle.std.proofs.lemmas.Bool.{cases_eq}
+use Rattle.request_pool.proofs.Owned.{on_same, one_at_most, flights_on-append, spare_on-append, rest_none, rest_after, own_after, rest_closed}
 
 pub underway-append : (xs ys : List Flight) → AreUnderway xs → AreUnderway ys → AreUnderway (xs ++ ys)
 underway-append [] ys h i = i
@@ -156,7 +157,7 @@ next_suits result p q a b g s h = flight_suits result h.f (record p { due = h.re
 
 woken_open : (answer : Ready) (a b : WireState) → Wakes answer a b → (k : ℕ) → (b.links k).is_open ≡ (a.links k).is_open
 woken_open ready.Door a b h k = ap (λ (x : Link). x.is_open) (h.1 k)
-woken_open (ready.Link i) a b h k = elim (at_or_off k i) [ inl e ↦ subst (λ (x : ℕ). (b.links x).is_open ≡ (a.links x).is_open) (sym e) (ap (λ (x : Link). x.is_open) h.1) | inr n ↦ ap (λ (x : Link). x.is_open) (h.2 k n) ]
+woken_open (ready.Link i) a b h k = elim (cases_eq k i) [ inl e ↦ subst (λ (x : ℕ). (b.links x).is_open ≡ (a.links x).is_open) (sym e) (ap (λ (x : Link). x.is_open) h.1) | inr n ↦ ap (λ (x : Link). x.is_open) (h.2 k n) ]
 
 waits_open : (answer : Result Ready Fault) (a b : WireState) → IsWait answer a b → (k : ℕ) → (b.links k).is_open ≡ (a.links k).is_open
 waits_open (Ok answer) a b h k = woken_open answer a b h.ok k
