@@ -1,5 +1,5 @@
 -- A reply that comes is an answer of the honest end of its link.
-use Rattle.std.proofs.Common.{ℕ, ◌≡◌, ◌≢◌, ◌<◌, ◌≤◌, ◌++◌, List, [], ◌∷◌, length, Option, Some, Bool, true, false, refl, sym, ◌∙◌, ap, subst, inl, inr, append_assoc}
+use Rattle.std.proofs.Common.{ℕ, ◌≡◌, ◌<◌, ◌≤◌, ◌++◌, List, [], ◌∷◌, length, Option, Some, Bool, true, false, refl, sym, ◌∙◌, ap, subst, inl, inr, append_assoc}
 use Rattle.std.specs.Prelude.{◌^◌}
 use Rattle.std.specs.List.{AllByRecursion}
 use Rattle.std.proofs.lemmas.Bool.{cases_lt}
@@ -7,13 +7,13 @@ use Rattle.rdf_terms.specs.declared.term.Triple.{Triple}
 use Rattle.tpf_base.specs.Addresses.{Address}
 use Rattle.tpf_base.specs.HttpReply.{ReplyFault, TooLong, More, Whole, Bad, reply_of}
 use Rattle.tpf_base.specs.Links.{All, Tells, WireState, IsToldBy, told_by, some_left}
-use Rattle.tpf_base.specs.Marks.{Mark, Served, version_at}
+use Rattle.tpf_base.specs.Marks.{Mark, version_at}
 use Rattle.http_wire.specs.declared.message.ReplyFault.{ReplyFault as Refusal}
 use Rattle.http_wire.specs.Replies.{shown_fault}
 use Rattle.template_fill.specs.Authorities.{AuthoritiesAreHostsAndPorts}
 use Rattle.template_fill.specs.HttpAnswer.{Answer, answer_text}
 use Rattle.template_fill.specs.Metadata.{Config}
-use Rattle.template_fill.specs.Answers.{is_reload, answer_to}
+use Rattle.template_fill.specs.Answers.{answer_to}
 use Rattle.template_fill.specs.Responses.{Answering, answering, response_by, IsMarkedBy, IsVersion, IsHonestAt}
 use Rattle.http_ends.specs.Requests.{request_for, asks, AddressesArePlain}
 use Rattle.http_ends.specs.Answers.{AnswersAreRead, LongHeadsAreRefused, HeadsAreShort, AnswersHaveStatus, PagesAreNQuads, ServerAnswersAreRead, ReadingsStay}
@@ -21,7 +21,8 @@ use Rattle.http_ends.specs.Cuts.{Answered, RequestIsSent, ResponseIsCut, Replies
 use Rattle.http_ends.proofs.Answers.{status_case}
 use Rattle.pool_laws.specs.Honest.{IsAnsweredByAll}
 use Rattle.request_pool.specs.declared.fault.PoolFault.TheVariants as faults
-use Rattle.pool_laws.proofs.HonestLemmas.{last_of, no_reload, over_version}
+use Rattle.list_laws.proofs.Each.{all_last, all_always}
+use Rattle.pool_laws.proofs.HonestLemmas.{no_reload, over_version}
 use Rattle.pool_laws.specs.Following.{IsWebAddress, IsReplied}
 use Rattle.pool_laws.specs.Causes.{RepliedOn}
 use Rattle.pool_laws.specs.Answers.{TellsAll, IsHonestOver, IsBodyOf, IsBodyOver, HasLongBody, IsLongPage, IsRefusedOver, RepliesAreAnswers, RefusalsAreTooLong, CutsAreFaults}
@@ -77,15 +78,11 @@ record IsOwedOver (history : List (List Triple)) (config : Config) (served : ℕ
   is_owed : IsOwed history config before address received owed had
   are_served : AllByRecursion (λ mark. served (version_at mark) ≡ true) is_owed.marks
 
--- where each version is served, each mark is
-all_served : (marks : List Mark) → AllByRecursion (λ mark. true ≡ true) marks
-all_served [] = tt
-all_served (mark ∷ marks) = (refl, all_served marks)
-
-over_any : (allows : List ℕ → ℕ → List ℕ → List ℕ → Type 0) (host : List ℕ) (port : ℕ) (history : List (List Triple)) (config : Config) → IsHonestAt allows host port (answering history config) → IsHonestOver allows host port history config (λ version. true)
+-- where each version may be served
+pub over_any : (allows : List ℕ → ℕ → List ℕ → List ℕ → Type 0) (host : List ℕ) (port : ℕ) (history : List (List Triple)) (config : Config) → IsHonestAt allows host port (answering history config) → IsHonestOver allows host port history config (λ version. true)
 over_any allows host port history config honest = λ sent owed may.
     let o = honest sent owed may in
-    record { marks = o.0; marked = o.1.0; are_served = all_served o.0; owed_is = o.1.1 }
+    record { marks = o.0; marked = o.1.0; are_served = all_always (λ mark. true ≡ true) (λ mark. refl) o.0; owed_is = o.1.1 }
 
 module _ (allows : List ℕ → ℕ → List ℕ → List ℕ → Type 0) (history : List (List Triple)) (config : Config) (limit : ℕ) (address : Address) (received : List ℕ) (after : WireState) where
   owed_over : (served : ℕ → Bool) (on : RepliedOn limit address received after) → TellsAll allows after → IsHonestOver allows address.host address.port history config served
@@ -129,7 +126,7 @@ record IsBodyAmong (history : List (List Triple)) (config : Config) (marks : Lis
   split : marks ≡ first ++ is_body.mark ∷ []
 
 last_served : (served : ℕ → Bool) (marks first : List Mark) (mark : Mark) → marks ≡ first ++ mark ∷ [] → AllByRecursion (λ m. served (version_at m) ≡ true) marks → served (version_at mark) ≡ true
-last_served served marks first mark split are = last_of (λ (m : Mark). served (version_at m) ≡ true) first mark (subst (λ (l : List Mark). AllByRecursion (λ m. served (version_at m) ≡ true) l) split are)
+last_served served marks first mark split are = all_last (λ (m : Mark). served (version_at m) ≡ true) first mark (subst (λ (l : List Mark). AllByRecursion (λ m. served (version_at m) ≡ true) l) split are)
 
 module _ (laws : EndsAreTrue) (history : List (List Triple)) (config : Config) (limit : ℕ) (address : Address) (received : List ℕ) (is : IsWebAddress address) where
   next_is : (before : List Answered) (owed had : Option (List ℕ)) → AllByRecursion (IsReplied limit) before → length (request_for address) ≤ 4194304 → (o : IsOwed history config before address received owed had) → IsAnswer history config o.marks address (received ++ o.rest)
@@ -142,7 +139,7 @@ module _ (laws : EndsAreTrue) (history : List (List Triple)) (config : Config) (
         first = cut.first;
         mark = cut.last;
         split = cut.split;
-        version = last_of (IsVersion (length history)) cut.first cut.last (subst (λ (m : List Mark). AllByRecursion (IsVersion (length history)) m) cut.split o.marked.versions);
+        version = all_last (IsVersion (length history)) cut.first cut.last (subst (λ (m : List Mark). AllByRecursion (IsVersion (length history)) m) cut.split o.marked.versions);
         same = cut.next;
       }
 

@@ -1,24 +1,21 @@
 -- The exchange whose reply came.
-use Rattle.std.proofs.Common.{ℕ, ◌≡◌, ◌+◌, ◌<◌, ◌++◌, List, [], ◌∷◌, map, Option, Some, false, Result, Ok, Err, refl, sym, ◌∙◌, ap, subst}
+use Rattle.std.proofs.Common.{ℕ, ◌≡◌, ◌+◌, ◌<◌, ◌++◌, List, ◌∷◌, map, Option, Some, false, Ok, sym, ◌∙◌, ap, subst}
 use Rattle.std.specs.List.{AllByRecursion}
 use Rattle.std.specs.List.Sorted.{IsPermutation}
-use Rattle.std.proofs.lemmas.List.Sorted.{IsPermutation-refl, IsPermutation-sym, IsPermutation-trans}
+use Rattle.std.proofs.lemmas.List.Sorted.{IsPermutation-refl, IsPermutation-trans}
 use Rattle.futures.specs.declared.task.Poll.TheVariants as poll
 use Rattle.tpf_base.specs.Addresses.{Address}
 use Rattle.tpf_base.specs.Links.{WireState, OpensGiven}
 use Rattle.http_wire.specs.declared.message.Reply.{Reply}
 use Rattle.template_fill.specs.Authorities.{AuthoritiesAreHostsAndPorts}
 use Rattle.exchange.specs.Exchanges.{IsLinked, left_link}
-use Rattle.request_pool.specs.declared.asks.Waiting.{Waiting}
 use Rattle.request_pool.specs.declared.asks.Flight.{Flight}
-use Rattle.request_pool.specs.declared.fault.Polled.{Polled}
 use Rattle.request_pool.specs.declared.fault.Polled.TheVariants as polls
-use Rattle.request_pool.specs.declared.fault.PoolFault.{PoolFault}
 use Rattle.request_pool.specs.declared.fault.PoolFault.TheVariants as faults
-use Rattle.request_pool.specs.Pools.{Pooled, Ask, ask_waiting, ask_flying, held, in_flight}
+use Rattle.request_pool.specs.Pools.{Pooled, Ask, ask_waiting, ask_flying, held}
 use Rattle.request_pool.specs.Owned.{SuitsWire, on_link, held_on}
 use Rattle.request_pool.specs.Polls.{Settles, NoLink, Kept, Shut, Polls, FlightTo}
-use Rattle.request_pool.specs.Runs.{Begins, Starts, Overruns, Flies, Starves, PollsNext, Last, OfStart, OfPoll}
+use Rattle.request_pool.specs.Runs.{Starts, Overruns, Flies, Starves, PollsNext, Last, OfStart, OfPoll}
 use Rattle.request_pool.specs.Steps.{EndsInRun}
 use Rattle.request_pool.proofs.Holding.{held_with, held_out, lined_held, running_holds, begun_holds, no_came, settles_held}
 use Rattle.request_pool.proofs.Steps.{suits_lined}

@@ -1,5 +1,5 @@
 -- Where a reply was read, and why a step ends with a fault.
-use Rattle.std.proofs.Common.{ℕ, ◌≡◌, ◌+◌, ◌≤◌, ◌⊎◌, inl, inr, ◌++◌, List, [], ◌∷◌, map, Option, Some, None, true, false, Result, Ok, Err, refl, sym, ◌∙◌, ap, subst, arith}
+use Rattle.std.proofs.Common.{ℕ, ◌≡◌, ◌+◌, ◌≤◌, ◌⊎◌, inl, inr, ◌++◌, List, ◌∷◌, map, Option, Some, None, true, false, Result, Ok, Err, refl, sym, ◌∙◌, ap, subst, arith}
 use Rattle.std.specs.List.{AllByRecursion}
 use Rattle.std.specs.List.Sorted.{IsPermutation}
 use Rattle.std.proofs.lemmas.List.Sorted.{IsPermutation-refl, IsPermutation-trans}
@@ -23,7 +23,7 @@ use Rattle.request_pool.specs.declared.fault.PoolFault.{PoolFault}
 use Rattle.request_pool.specs.declared.fault.PoolFault.TheVariants as faults
 use Rattle.request_pool.specs.declared.fault.Stepped.{Stepped}
 use Rattle.request_pool.specs.declared.fault.Stepped.TheVariants.{Came}
-use Rattle.request_pool.specs.Pools.{Pooled, Ask, IsOverBudget, ask_waiting, ask_flying, held, in_flight}
+use Rattle.request_pool.specs.Pools.{Pooled, Ask, IsOverBudget, ask_waiting, ask_flying, held}
 use Rattle.request_pool.specs.Owned.{SuitsWire, on_link, held_on}
 use Rattle.request_pool.specs.Polls.{Shuts, Polls, FailsTo, FlightTo}
 use Rattle.request_pool.specs.Runs.{Starts, Overruns, Flies, Starves, PollsNext, Last, OfStart, OfPoll}

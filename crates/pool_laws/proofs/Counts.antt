@@ -7,8 +7,8 @@ use Rattle.std.proofs.lemmas.List.Sums.{sum_by-cons, sum_by-append}
 use Rattle.tpf_base.specs.Addresses.{Address}
 use Rattle.request_pool.specs.declared.asks.Flight.{Flight}
 use Rattle.request_pool.specs.declared.asks.Waiting.{Waiting}
-use Rattle.request_pool.proofs.Owned.{at_or_off}
-use Rattle.pool_laws.specs.Requested.{Exchanged, addresses_of, NoneWhole, Unanswered, LinkRequests, last_whole, last_answered, over_links, any, left_waiting, left_flying, unsent}
+use Rattle.std.proofs.lemmas.Bool.{cases_eq}
+use Rattle.pool_laws.specs.Requested.{Exchanged, addresses_exchanged, NoneWhole, Unanswered, LinkRequests, last_whole, last_answered, over_links, any, left_waiting, left_flying, unsent}
 
 -- ---- lists
 
@@ -41,7 +41,7 @@ pub own_answers : (v : Bool) (test : Address → Bool) (xs : List Address) (x : 
 own_answers true test xs x = count-nil test xs
 own_answers false test xs x = count-nil test xs
 
-pub addresses-append : (xs ys : List Exchanged) → addresses_of (xs ++ ys) ≡ addresses_of xs ++ addresses_of ys
+pub addresses-append : (xs ys : List Exchanged) → addresses_exchanged (xs ++ ys) ≡ addresses_exchanged xs ++ addresses_exchanged ys
 addresses-append xs ys = map-append (λ (x : Exchanged). x.address) xs ys
 
 -- ---- what may still be sent
@@ -115,7 +115,7 @@ put_away (Some k) i x all n = put_other k i x all (λ e. n (ap (λ (j : ℕ). So
 pub put_there : (o : Option ℕ) (i : ℕ) (x : LinkRequests) (all : ℕ → LinkRequests) → o ≡ Some i → put_at o x all i ≡ x
 put_there o i x all e = ap (λ (p : Option ℕ). put_at p x all i) e ∙ put_same i i x all refl
 
-same_over : (f g : ℕ → ℕ) (first n : ℕ) → ((i : ℕ) → first ≤ i → i < first + n → f i ≡ g i) → over_links f first n ≡ over_links g first n
+pub same_over : (f g : ℕ → ℕ) (first n : ℕ) → ((i : ℕ) → first ≤ i → i < first + n → f i ≡ g i) → over_links f first n ≡ over_links g first n
 same_over f g first zero h = refl
 same_over f g first (suc n) h =
     let front : over_links f first n ≡ over_links g first n = same_over f g first n (λ i low high. h i low (omega (arith, high))) in
@@ -128,7 +128,7 @@ module _ (w : LinkRequests → ℕ) (all : ℕ → LinkRequests) (x : LinkReques
 
   within : (k first n : ℕ) → first ≤ k → k < first + n → over_links (λ i. w (put_at (Some k) x all i)) first n + w (all k) ≡ over_links (λ i. w (all i)) first n + w x
   within k first zero low high = absurd (omega (arith, low, high))
-  within k first (suc n) low high = elim (at_or_off k (first + n)) [
+  within k first (suc n) low high = elim (cases_eq k (first + n)) [
     | inl e ↦ (
         let last : w (put_at (Some k) x all (first + n)) ≡ w x = ap w (put_same k (first + n) x all e) in
         let old : w (all (first + n)) ≡ w (all k) = ap (λ (i : ℕ). w (all i)) (sym e) in

@@ -19,7 +19,7 @@ use Rattle.request_pool.specs.Polls.{Shuts, Settles, NoLink, Kept, Shut, FailsTo
 use Rattle.request_pool.specs.Runs.{Starts, Overruns, Flies, Starves, PollsNext}
 use Rattle.request_pool.specs.Steps.{IsWait, GivesUp}
 use Rattle.request_pool.proofs.Bounds.{flight_bounds}
-use Rattle.http_ends.proofs.Lists.{all_append}
+use Rattle.list_laws.proofs.Each.{all_append}
 use Rattle.pool_laws.specs.Counting.{FewDials, EmptyPoolsDial, PutsDial, FaultsDial, StepsDial, ClosingDials}
 use Rattle.pool_laws.proofs.KeptBySteps.{IsKept, by_step}
 use Rattle.pool_laws.proofs.Trying.{flight_tries}

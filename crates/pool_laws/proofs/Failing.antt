@@ -2,7 +2,7 @@
 use Rattle.std.proofs.Common.{ℕ, zero, suc, ◌≡◌, ◌≢◌, ◌+◌, ◌-◌, ◌<◌, ◌≤◌, ◌==◌, ◌⊎◌, inl, inr, ◌++◌, List, [], ◌∷◌, Option, Some, None, Bool, true, false, Result, Ok, Err, refl, sym, ◌∙◌, ap, subst, arith, if◌then◌else◌}
 use Rattle.std.specs.Prelude.{IfErr}
 use Rattle.std.specs.List.{AllByRecursion}
-use Rattle.std.proofs.lemmas.Bool.{cases_lt}
+use Rattle.std.proofs.lemmas.Bool.{cases_lt, cases_eq}
 use Rattle.std.proofs.lemmas.Bool.Decides.{eqb_tells}
 use Rattle.futures.specs.declared.task.Poll.TheVariants as poll
 use Rattle.tpf_base.specs.Addresses.{Address}
@@ -30,16 +30,15 @@ use Rattle.request_pool.specs.Owned.{SuitsWire, on_link, flights_on, held_on}
 use Rattle.request_pool.specs.Polls.{Shuts, Settles, NoLink, Kept, Shut, Polls, IsFailure, FailsTo, FlightTo, again}
 use Rattle.request_pool.specs.Runs.{Begins, Starts, Overruns, Flies, Starves, PollsNext, Last, OfStart, OfPoll}
 use Rattle.request_pool.specs.Steps.{IsWait, GivesUp, WaitsTo, Passes, Stalls, Misses, Lacks, EndsInWait, EndsInRun, EndsInFault, AtOnce, InRun, InWait, StepsTo}
-use Rattle.request_pool.proofs.Owned.{at_or_off, linked_open}
+use Rattle.request_pool.proofs.Owned.{linked_open}
 use Rattle.request_pool.proofs.Risen.{fares_first, running_fares, on_its}
 use Rattle.request_pool.proofs.Steps.{in_line, suits_lined}
 use Rattle.request_pool.proofs.Suits.{Owns, owns_begun, owns_next}
 use Rattle.request_pool.proofs.Bounds.{runs_bounds, lines_bounds}
-use Rattle.http_ends.proofs.Lists.{all_append, all_front}
+use Rattle.list_laws.proofs.Each.{all_append, all_front, all_back}
 use Rattle.pool_laws.specs.Owning.{IsAsBefore, Same, Woken}
 use Rattle.pool_laws.specs.Requested.{over_links}
 use Rattle.pool_laws.specs.Failing.{is_ended, times_ended, ended_links, FailsBy, ended_free, FailuresEnd, EndsByFailures, EmptyPoolsFail, PutsFail, FaultsFail, StepsFail}
-use Rattle.pool_laws.proofs.Lists.{all_behind}
 use Rattle.pool_laws.proofs.Following.{own_link}
 use Rattle.pool_laws.proofs.Owning.{after_link}
 use Rattle.pool_laws.proofs.HeldLinks.{LinksKept, owning_is_kept, any_asks, flight_owns, split_flights}
@@ -67,7 +66,7 @@ over_more f g first n (suc m) l h = elim (cases_lt m n) [
 over_one : (f g : ℕ → ℕ) (first n m j : ℕ) → n ≤ m → first ≤ j → j < first + m → ((i : ℕ) → first ≤ i → i < first + n → f i ≤ g i) → (j < first + n → f j ≡ 0) → 1 ≤ g j
     → over_links f first n + 1 ≤ over_links g first m
 over_one f g first n zero j l low high h none one = absurd (omega (arith, low, high))
-over_one f g first n (suc m) j l low high h none one = elim (at_or_off j (first + m)) [
+over_one f g first n (suc m) j l low high h none one = elim (cases_eq j (first + m)) [
   | inl at ↦ elim (cases_lt m n) [
     | inl all ↦ (
         let e : n ≡ suc m = omega (arith, l, all) in
@@ -195,7 +194,7 @@ module _ (since : WireState) where
     shut_free None rest a b s h = subst (λ (x : WireState). Free n rest x) (sym s) (less_free None rest a h)
     shut_free (Some i) rest a b c h =
         free_then n (λ k. on_link (Some i) k + rest k) rest a b (omega (arith, c.only.given)) (λ k below z. omega (arith, z))
-        (λ k below z. elim (at_or_off k i) [
+        (λ k below z. elim (cases_eq k i) [
           | inl e ↦ subst (λ (x : ℕ). (b.links x).ended ≡ (a.links x).ended) (sym e) c.ended
           | inr off ↦ ap (λ (l : Link). l.ended) (c.only.others k off)
         ]) h
@@ -560,7 +559,7 @@ module _ (since : WireState) where
     lists = record {
       waiting = h.waiting;
       polled = all_front (λ (f : Flight). FailsBy f.failed since.faults a.faults (ended_free (held_on p) since a)) p.polled p.due h.flying;
-      due = all_behind (λ (f : Flight). FailsBy f.failed since.faults a.faults (ended_free (held_on p) since a)) p.polled p.due h.flying;
+      due = all_back (λ (f : Flight). FailsBy f.failed since.faults a.faults (ended_free (held_on p) since a)) p.polled p.due h.flying;
     };
   }
 

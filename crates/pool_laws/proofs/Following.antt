@@ -16,10 +16,9 @@ use Rattle.template_fill.specs.Authorities.{AuthoritiesAreHostsAndPorts}
 use Rattle.http_ends.specs.Requests.{request_for}
 use Rattle.http_ends.specs.Cuts.{Answered, Sent, sent_for, bytes_of, sent_of, received_of}
 use Rattle.tpf_base.specs.Sending.{Holds}
-use Rattle.exchange.specs.Exchanges.{Exchanging, StandsOn, starting, request_of, left_link, left_by}
+use Rattle.exchange.specs.Exchanges.{Exchanging, StandsOn, starting, request_of, left_link}
 use Rattle.exchange.specs.Polls.{Touches, LinkAfter, Replies}
-use Rattle.exchange.specs.declared.exchange.Standing.{Standing}
-use Rattle.exchange.specs.declared.exchange.Standing.TheVariants.{Underway, Left, Over}
+use Rattle.exchange.specs.declared.exchange.Standing.TheVariants.{Left, Over}
 use Rattle.exchange.specs.declared.fault.ExchangeFault.{ExchangeFault}
 use Rattle.request_pool.specs.declared.asks.Waiting.{Waiting}
 use Rattle.request_pool.specs.declared.asks.Flight.{Flight}
@@ -29,16 +28,15 @@ use Rattle.request_pool.specs.declared.fault.Polled.TheVariants as polls
 use Rattle.request_pool.specs.declared.fault.PoolFault.{PoolFault}
 use Rattle.request_pool.specs.declared.fault.PoolFault.TheVariants as faults
 use Rattle.request_pool.specs.Pools.{Pooled}
-use Rattle.request_pool.specs.Owned.{on_link, flights_on, spare_on, held_on}
+use Rattle.request_pool.specs.Owned.{flights_on, spare_on, held_on}
 use Rattle.request_pool.specs.Polls.{Shuts, Settles, NoLink, Kept, Shut, TakesLink, IsFor, Polls, FlightTo}
 use Rattle.request_pool.specs.Runs.{Begins, Starts, Overruns, Flies, Starves, PollsNext}
-use Rattle.request_pool.proofs.Owned.{on_same, rest_none}
+use Rattle.request_pool.proofs.Owned.{rest_none}
 use Rattle.request_pool.proofs.Suits.{Owns, own_none, left_is}
-use Rattle.http_ends.proofs.Lists.{all_append, all_front}
+use Rattle.list_laws.proofs.Each.{all_append, all_front, all_back}
 use Rattle.request_pool.proofs.Risen.{on_its}
 use Rattle.tpf_base.proofs.SendingLemmas.{holds_same}
 use Rattle.pool_laws.specs.Following.{IsWebAddress, IsReplied, HasPeer, Follows, AnswersSoFar, FollowsOn}
-use Rattle.pool_laws.proofs.Lists.{all_behind}
 
 -- ---- a link of which the same is told
 
@@ -304,7 +302,7 @@ taken one p a first spare None is h t = record {
 taken one p a first spare (Some k) is h t =
     let o = t.1.3 in
     let all = subst (λ (l : List Spare). AllByRecursion (λ s. FollowsOn p.limit a s) l) o.is_old h in
-    let behind = all_behind (λ (s : Spare). FollowsOn p.limit a s) o.before (t.1.0 ∷ o.after) all in
+    let behind = all_back (λ (s : Spare). FollowsOn p.limit a s) o.before (t.1.0 ∷ o.after) all in
     record {
       follows = same_home one p.limit a t.1.0 first.address k t.1.1 t.1.2 is behind.0;
       left = subst (λ (l : List Spare). AllByRecursion (λ s. FollowsOn p.limit a s) l) (sym o.is_new)

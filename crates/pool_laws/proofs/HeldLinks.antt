@@ -28,11 +28,11 @@ use Rattle.request_pool.specs.Owned.{on_link, flights_on, spare_on, held_on}
 use Rattle.request_pool.specs.Polls.{Shuts, Settles, NoLink, Kept, Shut, TakesLink, FailsTo, IsFailure, FlightTo}
 use Rattle.request_pool.specs.Runs.{Begins, Starts, Overruns, Flies, Starves, PollsNext}
 use Rattle.request_pool.specs.Steps.{IsWait, GivesUp}
-use Rattle.request_pool.proofs.Owned.{at_or_off, flights_on-append, spare_on-append}
-use Rattle.http_ends.proofs.Lists.{all_append, all_front}
+use Rattle.std.proofs.lemmas.Bool.{cases_eq}
+use Rattle.request_pool.proofs.Owned.{flights_on-append, spare_on-append}
+use Rattle.list_laws.proofs.Each.{all_append, all_front, all_back, all_unmap, all_always}
 use Rattle.request_pool.proofs.Suits.{left_is}
 use Rattle.pool_laws.specs.Owning.{IsAsBefore, Same, Woken}
-use Rattle.pool_laws.proofs.Lists.{all_behind, all_unmap, all_any}
 use Rattle.pool_laws.proofs.KeptBySteps.{IsKept}
 
 -- what each call on a link keeps
@@ -55,23 +55,23 @@ pub record Owning (home : Address → Type 0) (links : (ℕ → ℕ) → WireSta
 
 -- asks for any addresses
 pub any_asks : (p : Pooled) → AsksAt (λ address. Unit {0}) p
-any_asks p = record { waiting = all_any p.waiting; polled = all_any p.polled; due = all_any p.due }
+any_asks p = record { waiting = all_always (λ f. Unit {0}) (λ f. tt) p.waiting; polled = all_always (λ f. Unit {0}) (λ f. tt) p.polled; due = all_always (λ f. Unit {0}) (λ f. tt) p.due }
 
 -- the asks that a pool holds
 pub asks_in : (home : Address → Type 0) (p : Pooled) → AllByRecursion (λ ask. home ask.address) (held p) → AsksAt home p
 asks_in home p all =
-    let flying = all_unmap (λ (ask : Ask). home ask.address) ask_flying (in_flight p) (all_behind (λ (ask : Ask). home ask.address) (map ask_waiting p.waiting) (map ask_flying (in_flight p)) all) in
+    let flying = all_unmap ask_flying (λ (ask : Ask). home ask.address) (in_flight p) (all_back (λ (ask : Ask). home ask.address) (map ask_waiting p.waiting) (map ask_flying (in_flight p)) all) in
     record {
-      waiting = all_unmap (λ (ask : Ask). home ask.address) ask_waiting p.waiting (all_front (λ (ask : Ask). home ask.address) (map ask_waiting p.waiting) (map ask_flying (in_flight p)) all);
+      waiting = all_unmap ask_waiting (λ (ask : Ask). home ask.address) p.waiting (all_front (λ (ask : Ask). home ask.address) (map ask_waiting p.waiting) (map ask_flying (in_flight p)) all);
       polled = all_front (λ (f : Flight). home f.exchange.address) p.polled p.due flying;
-      due = all_behind (λ (f : Flight). home f.exchange.address) p.polled p.due flying;
+      due = all_back (λ (f : Flight). home f.exchange.address) p.polled p.due flying;
     }
 
 -- each address is one of those of all
 pub all_held : (asks : List Ask) → AllByRecursion (λ ask. Contains (map (λ (a : Ask). a.address) asks) ask.address) asks
 all_held asks =
     let all : List Address = map (λ (a : Ask). a.address) asks in
-    all_unmap (λ (address : Address). Contains (map (λ (a : Ask). a.address) asks) address) (λ (a : Ask). a.address) asks (recursion_from_All (Contains (map (λ (a : Ask). a.address) asks)) all (All-contains_itself all))
+    all_unmap (λ (a : Ask). a.address) (λ (address : Address). Contains (map (λ (a : Ask). a.address) asks) address) asks (recursion_from_All (Contains (map (λ (a : Ask). a.address) asks)) all (All-contains_itself all))
 
 -- ---- the link of an exchange that is over
 
@@ -102,7 +102,7 @@ unleft_closed s o a (inr over) closed e = closed over
 
 wakes_only : (answer : Ready) (a b : WireState) → Wakes answer a b → (k : ℕ) → IsAsBefore (a.links k) (b.links k)
 wakes_only ready.Door a b w k = Same (w.1 k)
-wakes_only (ready.Link i) a b w k = elim (at_or_off k i) [ inl e ↦ subst (λ (x : ℕ). IsAsBefore (a.links x) (b.links x)) (sym e) (Woken w.0 w.1) | inr n ↦ Same (w.2 k n) ]
+wakes_only (ready.Link i) a b w k = elim (cases_eq k i) [ inl e ↦ subst (λ (x : ℕ). IsAsBefore (a.links x) (b.links x)) (sym e) (Woken w.0 w.1) | inr n ↦ Same (w.2 k n) ]
 
 pub waits_only : (answer : Result Ready Fault) (a b : WireState) → IsWait answer a b → (k : ℕ) → IsAsBefore (a.links k) (b.links k)
 waits_only (Ok answer) a b w k = wakes_only answer a b w.ok k

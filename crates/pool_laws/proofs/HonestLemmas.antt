@@ -1,6 +1,7 @@
 -- A refused reply is an answer whose body is too long.
-use Rattle.std.proofs.Common.{ℕ, ◌≡◌, List, [], ◌∷◌, ◌++◌, length, false, refl, sym, ◌∙◌, ap, subst, append_assoc}
+use Rattle.std.proofs.Common.{ℕ, ◌≡◌, List, ◌++◌, length, false, refl, sym, ◌∙◌, ap, subst, append_assoc}
 use Rattle.std.specs.List.{AllByRecursion}
+use Rattle.list_laws.proofs.Each.{all_last}
 use Rattle.rdf_terms.specs.declared.term.Triple.{Triple}
 use Rattle.tpf_base.specs.Addresses.{Address}
 use Rattle.http_wire.specs.Replies.{shown_fault}
@@ -15,11 +16,6 @@ use Rattle.http_ends.specs.Cuts.{RequestIsSent, NextAnswerIsCut, sent_for, bytes
 use Rattle.exchange.specs.Exchanges.{request_of}
 use Rattle.pool_laws.specs.Honest.{RefusedAsTooLongAlone}
 use Rattle.pool_laws.proofs.WholeReplies.{page_refusal, page_is_long}
-
--- what holds of all holds of the last
-pub last_of : {T : Type 0} (P : T → Type 0) (xs : List T) (x : T) → AllByRecursion P (xs ++ x ∷ []) → P x
-last_of P [] x all = all.0
-last_of P (y ∷ xs) x all = last_of P xs x all.1
 
 request_is : request_of ≡ request_for
 unfolding request_of
@@ -52,7 +48,7 @@ refused_as_too_long next is_sent statuses pages reads stays history config befor
     let marked : IsMarked history config (bytes_of (sent_of before) ++ request_for new.address) owed.0 = subst (λ (t : List ℕ). IsMarked history config t owed.0) sent owed.1.0 in
     let cut = next limit (answering history config) before (sent_for new.address) owed.0 (received ++ front.0) (statuses history config) answered (is_sent text new.address address short) marked
     (owed_is history config owed.0 (bytes_of (sent_of before)) (request_for new.address) told.0.sent told.0.received told.1.0 (received_of before) received front.0 sent came front.1 owed.1.1) in
-    let version = last_of (IsVersion (length history)) cut.first cut.last (subst (λ (m : List Mark). AllByRecursion (IsVersion (length history)) m) cut.split marked.versions) in
+    let version = all_last (IsVersion (length history)) cut.first cut.last (subst (λ (m : List Mark). AllByRecursion (IsVersion (length history)) m) cut.split marked.versions) in
     let status : (answer_to history cut.last config (asks new.address)).status ≡ 200 =
     ap (λ (a : Answer). a.status) (over_version history cut.last config new.address) ∙ every (version_at cut.last) version.low version.high in
     let page = pages history cut.last config (asks new.address) (no_reload config new.address) status in

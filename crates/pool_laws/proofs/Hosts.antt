@@ -1,19 +1,17 @@
 -- A step dials for the asks that were held at its entry; and what is so for the hosts of some addresses is so for one host and port.
 use Rattle.std.proofs.Common.{ℕ, ◌≡◌, ◌+◌, ◌<◌, ◌≤◌, inl, inr, ◌++◌, List, [], ◌∷◌, map, Option, Some, None, refl, sym, ◌∙◌, ap, subst, arith}
-use Rattle.std.specs.List.{AllByRecursion, Contains}
-use Rattle.std.proofs.lemmas.Bool.{cases_lt}
+use Rattle.std.specs.List.{Contains}
+use Rattle.std.proofs.lemmas.Bool.{cases_lt, cases_eq}
 use Rattle.std.proofs.lemmas.List.Elements.{All-contains, All-contains_itself, All-from_recursion, recursion_from_All}
 use Rattle.tpf_base.specs.Addresses.{Address}
 use Rattle.tpf_base.specs.Links.{Link, Nature, WireState, told_by}
 use Rattle.exchange.specs.Exchanges.{Exchanging}
 use Rattle.exchange.specs.Polls.{Touches}
 use Rattle.request_pool.specs.Pools.{Pooled, Ask, empty_pool, held}
-use Rattle.request_pool.specs.Owned.{on_link}
 use Rattle.request_pool.specs.Polls.{Shuts}
-use Rattle.request_pool.proofs.Owned.{at_or_off}
 use Rattle.pool_laws.specs.Owning.{IsAt, IsAsBefore, Same, Woken, GivesAt, OwnsSince, EmptyPoolsOwn, PutsOwn, FaultsOwn, StepsOwn, ClosingCloses}
 use Rattle.pool_laws.specs.Hosts.{IsAtOneOf, IsDialledFor, GivesAtHosts, OwnsAtHosts, StepsDialHeld}
-use Rattle.pool_laws.proofs.Lists.{all_so}
+use Rattle.list_laws.proofs.Each.{all_so}
 use Rattle.pool_laws.proofs.KeptBySteps.{by_step}
 use Rattle.pool_laws.proofs.Owning.{after_link, same_dialled}
 use Rattle.pool_laws.proofs.OwningLaws.{empty_owns, put_owns, fault_owns, step_owns, closing_closes}
@@ -27,7 +25,7 @@ record Dials (homes : List Address) (since now : WireState) : Type 0 where
   nature : now.nature ≡ since.nature
   peers : (k : ℕ) → since.given ≤ k → k < now.given → IsDialledFor homes since.nature.tells (now.links k).peer
 
-woken_peer : (a b : Link) → IsAsBefore a b → b.peer ≡ a.peer
+pub woken_peer : (a b : Link) → IsAsBefore a b → b.peer ≡ a.peer
 woken_peer a b (Same e) = ap (λ (x : Link). x.peer) e
 woken_peer a b (Woken o e) = ap (λ (x : Link). x.peer) e
 
@@ -59,7 +57,7 @@ module _ (homes : List Address) (since : WireState) where
   shut_dials None a b s h = subst (λ (x : WireState). Dials homes since x) (sym s) h
   shut_dials (Some i) a b c h =
       same_peers a b c.only.given c.only.nature
-      (λ k. elim (at_or_off i k) [ inl e ↦ subst (λ (x : ℕ). (b.links x).peer ≡ (a.links x).peer) e c.peer | inr n ↦ ap (λ (x : Link). x.peer) (c.only.others k (λ e. n (sym e))) ]) h
+      (λ k. elim (cases_eq i k) [ inl e ↦ subst (λ (x : ℕ). (b.links x).peer ≡ (a.links x).peer) e c.peer | inr n ↦ ap (λ (x : Link). x.peer) (c.only.others k (λ e. n (sym e))) ]) h
 
   dials_kept : LinksKept (Contains homes) (λ times a. Dials homes since a)
   dials_kept = record {

@@ -2,7 +2,7 @@
 use Rattle.std.proofs.Common.{[], ◌∷◌, refl}
 use Rattle.request_pool.specs.declared.asks.Waiting.{Waiting}
 use Rattle.request_pool.proofs.Suits.{owns_next}
-use Rattle.http_ends.proofs.Lists.{all_append}
+use Rattle.list_laws.proofs.Each.{all_append}
 use Rattle.pool_laws.specs.Following.{IsWebAddress, EmptyPoolsFollow, PutsFollow, ClosedPoolsFollow, FaultsFollow, OthersFollow, FlightsFollow}
 use Rattle.pool_laws.proofs.Following.{told_same, pool_told, flight_follows}
 

@@ -1,5 +1,4 @@
 pub mod HonestLemmas
-pub mod Lists
 pub mod Following
 pub mod KeptBySteps
 pub mod Running

@@ -1,56 +1,17 @@
 -- No part of the head of a page is a reply, however long the head.
-use Rattle.std.proofs.Common.{◌≡◌, ℕ, ◌+◌, ◌<◌, Bool, true, false, ◌==◌, List, [], ◌∷◌, ◌++◌, length, reverse, refl, sym, ap, if◌then◌else◌, ◌∙◌, arith, append_assoc, length-append, inl, inr}
-use Rattle.std.specs.Prelude.{◌&&◌, ◌||◌, ◌⊎◌, codes, nat_le, nat_lt}
-use Rattle.std.specs.Char.{is_ascii_digit}
-use Rattle.std.specs.List.{list_all}
-use Rattle.std.proofs.lemmas.Bool.{and_parts, and_from}
-use Rattle.std.proofs.lemmas.Bool.Decides.{nat_tests}
-use Rattle.std.proofs.lemmas.List.{reverse-append, reverse-reverse}
-use Rattle.std.proofs.lemmas.List.Folds.{list_all-append}
-use Rattle.httparse.specs.Grammar.{is_token_byte, is_value_byte, skip_ows, trim_ows}
+use Rattle.std.proofs.Common.{◌≡◌, ℕ, ◌+◌, ◌<◌, Bool, true, false, List, [], ◌∷◌, ◌++◌, length, refl, sym, ap, if◌then◌else◌, ◌∙◌, arith, append_assoc, length-append, inl, inr}
+use Rattle.std.specs.Prelude.{◌⊎◌, codes, nat_le, nat_lt}
+use Rattle.httparse.specs.Grammar.{is_token_byte, trim_ows}
 use Rattle.tpf_base.specs.Decimals.{digits_up_to, decimal_text}
-use Rattle.tpf_base.proofs.DecimalTexts.{decimal_text-digits}
 use Rattle.tpf_base.specs.HttpHeads.{ends_empty, field_lines}
 use Rattle.tpf_base.specs.HttpReply.{Place, InHeads, Failed, BadHead, TooLong, Reading, More, Whole, Bad, one_more, heads_limit, head_place, response_head, after_head_byte, reading_from, reply_of}
 use Rattle.http_wire.proofs.RunLemmas.{over_reading, open_reading}
-use Rattle.template_fill.proofs.Passing.{list_all-wider}
 use Rattle.template_fill.specs.HttpAnswer.{NQuads, head_text, answer_fields, phrase}
+use Rattle.http_ends.proofs.Answers.{length_whole}
 use Rattle.http_ends.proofs.EmptyLines.{EndsOnce, front_no_end}
 use Rattle.http_ends.proofs.HeadTexts.{IsWhole, AreWhole, head_ends}
 
 -- ---- the head of a page ends at its only empty line
-
-no_blank : (b : ℕ) → is_ascii_digit b ≡ true → (b == 32 || b == 9) ≡ false
-no_blank b h = grind (arith, nat_tests)
-
-value_digit : (b : ℕ) → is_ascii_digit b ≡ true → is_value_byte b ≡ true
-value_digit b h = grind (arith, nat_tests)
-
-skip_none : (bs : List ℕ) → list_all is_ascii_digit bs ≡ true → skip_ows bs ≡ bs
-skip_none [] all = refl
-skip_none (b ∷ bs) all = ap (λ (v : Bool). if v then skip_ows bs else b ∷ bs) (no_blank b (and_parts (is_ascii_digit b) (list_all is_ascii_digit bs) all).0)
-
-all_reverse : (bs : List ℕ) → list_all is_ascii_digit bs ≡ true → list_all is_ascii_digit (reverse bs) ≡ true
-all_reverse [] all = refl
-all_reverse (b ∷ bs) all =
-    let parts = and_parts (is_ascii_digit b) (list_all is_ascii_digit bs) all in
-    ap (list_all is_ascii_digit) (reverse-append (b ∷ []) bs) ∙ list_all-append is_ascii_digit (reverse bs) (b ∷ [])
-    ∙ and_from (list_all is_ascii_digit (reverse bs)) (is_ascii_digit b && true) (all_reverse bs parts.1) (and_from (is_ascii_digit b) true parts.0 refl)
-
-trim_none : (bs : List ℕ) → list_all is_ascii_digit bs ≡ true → trim_ows (32 ∷ bs) ≡ bs
-unfolding trim_ows
-trim_none bs all =
-    ap (λ (t : List ℕ). reverse (skip_ows (reverse t))) (skip_none bs all) ∙ ap reverse (skip_none (reverse bs) (all_reverse bs all)) ∙ reverse-reverse bs
-
-length_whole : (n : ℕ) → IsWhole (codes "Content-Length", decimal_text n)
-unfolding is_token_byte
-length_whole n = record {
-  some = omega arith;
-  name = refl;
-  in_line = refl;
-  value = list_all-wider is_ascii_digit is_value_byte value_digit (decimal_text n) (decimal_text-digits n);
-  trimmed = trim_none (decimal_text n) (decimal_text-digits n);
-}
 
 type_whole : IsWhole (codes "Content-Type", codes "application/n-quads")
 unfolding is_token_byte trim_ows

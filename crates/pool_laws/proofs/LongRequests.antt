@@ -1,6 +1,6 @@
 -- A request past the limit of heads is refused, and its refusal is no reply.
-use Rattle.std.proofs.Common.{append-nil, ◌≡◌, ℕ, suc, ◌+◌, ◌<◌, ◌≤◌, Bool, true, false, List, [], ◌∷◌, ◌++◌, length, refl, sym, ap, subst, ◌∙◌, arith, append_assoc, length-append, Some, inl, inr}
-use Rattle.std.specs.List.{AllByRecursion, AllZip}
+use Rattle.std.proofs.Common.{append-nil, ◌≡◌, ℕ, ◌+◌, ◌<◌, ◌≤◌, Bool, true, false, List, [], ◌∷◌, ◌++◌, length, refl, sym, ap, subst, ◌∙◌, arith, append_assoc, length-append, Some, inl, inr}
+use Rattle.std.specs.List.{AllByRecursion}
 use Rattle.std.proofs.lemmas.Bool.{cases_lt}
 use Rattle.std.proofs.lemmas.List.{length-map}
 use Rattle.tpf_base.specs.Addresses.{Address, authority_of, target_of}
@@ -18,16 +18,11 @@ use Rattle.http_ends.specs.Answers.{AnswersAreRead, HeadsAreShort, HasStatuses}
 use Rattle.http_ends.specs.Cuts.{Answered, Sent, IsSent, IsAnswered, IsAnswerOver, RequestIsSent, ResponseIsCut, RepliesAreCut, sent_for, bytes_of, sent_of, received_of}
 use Rattle.http_ends.proofs.EmptyLines.{EndsOnce, head_is_all}
 use Rattle.http_ends.proofs.Requests.{request_ends}
-use Rattle.http_ends.proofs.Lists.{all_append}
+use Rattle.list_laws.proofs.Each.{all_append}
+use Rattle.list_laws.proofs.Lists.{zip_length}
 use Rattle.pool_laws.specs.Following.{IsWebAddress, IsReplied}
 use Rattle.pool_laws.proofs.Following.{sent_more, received_more}
 use Rattle.pool_laws.proofs.WholeReplies.{too_long, no_too_long, no_nothing}
-
-zip_length : {A B : Type 0} (R : A → B → Type 0) (xs : List A) (ys : List B) → AllZip R xs ys → length xs ≡ length ys
-zip_length R [] [] all = refl
-zip_length R [] (y ∷ ys) all = absurd all
-zip_length R (x ∷ xs) [] all = absurd all
-zip_length R (x ∷ xs) (y ∷ ys) all = ap (λ (n : ℕ). suc n) (zip_length R xs ys all.1)
 
 blank_none : (address : Address) → blank_length (request_for address) ≡ 0
 unfolding blank_length

@@ -1,7 +1,7 @@
 -- The links that were given since a moment, after each call.
 use Rattle.std.proofs.Common.{ℕ, ◌≡◌, ◌≢◌, ◌+◌, ◌<◌, ◌≤◌, inl, inr, Option, Some, None, refl, sym, ◌∙◌, ap, ap₂, subst, arith}
 use Rattle.std.specs.Prelude.{List, true, false}
-use Rattle.std.proofs.lemmas.Bool.{cases_lt}
+use Rattle.std.proofs.lemmas.Bool.{cases_lt, cases_eq}
 use Rattle.tpf_base.specs.Addresses.{Address}
 use Rattle.tpf_base.specs.Links.{Link, Nature, Tells, WireState, told_by}
 use Rattle.tpf_base.specs.Calls.{Closes}
@@ -9,7 +9,7 @@ use Rattle.exchange.specs.Exchanges.{Exchanging}
 use Rattle.exchange.specs.Polls.{Touches, LinkAfter, ClosedOn}
 use Rattle.request_pool.specs.Owned.{on_link, open_on, times_open}
 use Rattle.request_pool.specs.Polls.{Shuts}
-use Rattle.request_pool.proofs.Owned.{at_or_off, on_same, on_other, one_at_most, same_open, closed_none}
+use Rattle.request_pool.proofs.Owned.{on_same, on_other, one_at_most, same_open, closed_none}
 use Rattle.request_pool.proofs.Risen.{some_is, on_its}
 use Rattle.pool_laws.specs.Owning.{IsAsBefore, Same, Woken}
 use Rattle.pool_laws.specs.Hosts.{IsAtOneOf, IsDialledFor, GivesAtHosts}
@@ -34,7 +34,7 @@ pub after_link : (address : Address) (o p : Option ℕ) (a b : WireState) → Li
 after_link address (Some j) (Some i) a b l same = record {
   given = omega (arith, l.1);
   same = λ k z. same k (off_link (Some i) k z);
-  peer_old = λ k below. elim (at_or_off j k) [ inl e ↦ subst (λ (x : ℕ). (b.links x).peer ≡ (a.links x).peer) e l.3 | inr n ↦ same_peer a b k (same k (λ e. n (sym l.0 ∙ some_is i k e))) ];
+  peer_old = λ k below. elim (cases_eq j k) [ inl e ↦ subst (λ (x : ℕ). (b.links x).peer ≡ (a.links x).peer) e l.3 | inr n ↦ same_peer a b k (same k (λ e. n (sym l.0 ∙ some_is i k e))) ];
   is_new = λ k low below. absurd (omega (arith, low, below, l.1));
   same_old = λ k below. ap (λ (x : ℕ). on_link (Some x) k) l.0;
 }
@@ -124,7 +124,7 @@ module _ (homes : List Address) (since : WireState) where
   drop_keeps None rest a closed h = record { gives = h.gives; owned = λ k low below. omega (arith, h.owned k low below); none = λ k low. omega (arith, h.none k low) }
   drop_keeps (Some i) rest a closed h = record {
     gives = h.gives;
-    owned = λ k low below. elim (at_or_off i k) [
+    owned = λ k low below. elim (cases_eq i k) [
       | inl e ↦ omega (arith, closed_none (a.links k).is_open (subst (λ (x : ℕ). (a.links x).is_open ≡ false) e closed))
       | inr n ↦ omega (arith, h.owned k low below, on_other i k n)
     ];
@@ -135,7 +135,7 @@ module _ (homes : List Address) (since : WireState) where
   closed_gives i a b off c h = record {
     later = omega (arith, h.later, c.only.given);
     nature = c.only.nature ∙ h.nature;
-    peers = λ k low below. elim (at_or_off i k) [
+    peers = λ k low below. elim (cases_eq i k) [
       | inl e ↦ same_dialled homes since.nature.tells (a.links k).peer (b.links k).peer (subst (λ (x : ℕ). (b.links x).peer ≡ (a.links x).peer) e c.peer) (h.peers k low (omega (arith, below, c.only.given)))
       | inr n ↦ same_dialled homes since.nature.tells (a.links k).peer (b.links k).peer (same_peer a b k (c.only.others k (λ e. n (sym e)))) (h.peers k low (omega (arith, below, c.only.given)))
     ];
@@ -149,7 +149,7 @@ module _ (homes : List Address) (since : WireState) where
       let off : (k : ℕ) → k < since.given → i ≢ k = λ k low e. absurd (omega (arith, h.none k low, on_same i k e)) in
       record {
         gives = closed_gives i a b off c h.gives;
-        owned = λ k low below. elim (at_or_off i k) [
+        owned = λ k low below. elim (cases_eq i k) [
           | inl e ↦ omega (arith, closed_none (b.links k).is_open (subst (λ (x : ℕ). (b.links x).is_open ≡ false) e c.is_open))
           | inr n ↦ omega (arith, h.owned k low (omega (arith, below, c.only.given)), on_other i k n, same_open a b k (c.only.others k (λ e. n (sym e))))
         ];

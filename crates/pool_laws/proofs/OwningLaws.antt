@@ -10,10 +10,9 @@ use Rattle.request_pool.specs.Pools.{Pooled, Ask, ask_waiting, ask_flying, held,
 use Rattle.request_pool.specs.Owned.{held_on, times_open}
 use Rattle.request_pool.specs.Closing.{ClosesSome}
 use Rattle.request_pool.proofs.Owned.{closed_none}
-use Rattle.http_ends.proofs.Lists.{all_append}
+use Rattle.list_laws.proofs.Each.{all_append, all_map}
 use Rattle.pool_laws.specs.Owning.{IsAsBefore, Same}
 use Rattle.pool_laws.specs.Hosts.{IsAtOneOf, GivesAtHosts, OwnsAtHosts, EmptyPoolsOwnAtHosts, PutsOwnAtHosts, FaultsOwnAtHosts, StepsOwnAtHosts, ClosesAtHosts, ClosingAtHosts}
-use Rattle.pool_laws.proofs.Lists.{all_map}
 use Rattle.pool_laws.proofs.KeptBySteps.{by_step}
 use Rattle.pool_laws.proofs.Owning.{same_dialled, Keeps, keeps_as, poll_keeps, drop_keeps, shut_keeps, woken_keeps}
 use Rattle.pool_laws.proofs.HeldLinks.{LinksKept, AsksAt, Owning, owning_is_kept, asks_in}
@@ -24,8 +23,8 @@ module _ (homes : List Address) where
   asks_out : (p : Pooled) → AsksAt (IsAtOneOf homes) p → AllByRecursion (λ ask. IsAtOneOf homes ask.address) (held p)
   asks_out p h =
       all_append (λ (ask : Ask). IsAtOneOf homes ask.address) (map ask_waiting p.waiting) (map ask_flying (in_flight p))
-      (all_map (λ (ask : Ask). IsAtOneOf homes ask.address) ask_waiting p.waiting h.waiting)
-      (all_map (λ (ask : Ask). IsAtOneOf homes ask.address) ask_flying (in_flight p) (all_append (λ (f : Flight). IsAtOneOf homes f.exchange.address) p.polled p.due h.polled h.due))
+      (all_map ask_waiting (λ (ask : Ask). IsAtOneOf homes ask.address) p.waiting h.waiting)
+      (all_map ask_flying (λ (ask : Ask). IsAtOneOf homes ask.address) (in_flight p) (all_append (λ (f : Flight). IsAtOneOf homes f.exchange.address) p.polled p.due h.polled h.due))
 
   owns_in : (since : WireState) (p : Pooled) (a : WireState) → OwnsAtHosts homes since p a → Owning (IsAtOneOf homes) (Keeps homes since) p a
   owns_in since p a h = record { asks = asks_in (IsAtOneOf homes) p h.asks; known = record { gives = h.gives; owned = h.owned; none = h.none_before } }

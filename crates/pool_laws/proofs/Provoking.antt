@@ -2,7 +2,7 @@
 use Rattle.std.proofs.Common.{ℕ, ◌≡◌, ◌+◌, ◌<◌, ◌≤◌, ◌⊎◌, inl, inr, ◌++◌, List, [], ◌∷◌, map, length, length-append, Option, Some, None, true, false, Result, Ok, Err, refl, sym, ◌∙◌, ap, ap₂, subst, arith, append-nil}
 use Rattle.std.specs.Prelude.{◌^◌, min, IfOk}
 use Rattle.std.specs.List.{AllByRecursion, Contains}
-use Rattle.std.proofs.lemmas.Bool.{cases_lt}
+use Rattle.std.proofs.lemmas.Bool.{cases_lt, cases_eq}
 use Rattle.std.proofs.lemmas.List.{length-map}
 use Rattle.std.proofs.lemmas.List.Elements.{All-contains, All-from_recursion}
 use Rattle.std.proofs.lemmas.List.Sorted.{length_permutation}
@@ -38,13 +38,13 @@ use Rattle.request_pool.specs.Owned.{SuitsWire, on_link, flights_on, spare_on, h
 use Rattle.request_pool.specs.Polls.{Shuts, Settles, NoLink, Kept, Shut, TakesLink, Polls, FlightTo}
 use Rattle.request_pool.specs.Runs.{Begins, Starts, Overruns, Flies, Starves, Last, OfStart, OfPoll, is_end, Running}
 use Rattle.request_pool.specs.Steps.{IsWait, GivesUp, WaitsTo, Passes, Stalls, Misses, Lacks, Lines, EndsInWait, EndsInRun, EndsInFault, AtOnce, InRun, InWait, StepsTo, MayWait, AsleepOn}
-use Rattle.request_pool.proofs.Owned.{at_or_off, on_same, on_other, one_at_most, open_one, closed_none, same_open, flights_on-append}
+use Rattle.request_pool.proofs.Owned.{on_same, on_other, one_at_most, open_one, closed_none, same_open, flights_on-append}
 use Rattle.request_pool.proofs.Suits.{Owns, owns_begun, owns_next, own_none, waits_suits, left_is}
 use Rattle.pool_laws.specs.Following.{Follows, AnswersSoFar, HasPeer}
 use Rattle.pool_laws.specs.Owning.{IsAsBefore, Same, Woken}
 use Rattle.pool_laws.specs.Rising.{IsServed, IsServedBySome}
 use Rattle.pool_laws.specs.Provoking.{IsStalled, IsAwake, OneIsAwake, MovesFirst, Moved, Awake, Again, HoldsNone, WaitsReady, HasHung, SparesWire, StepSpares, EmptyPoolsReady, PutsReady, StepsSpare, NoneHang, NoneHangBySome}
-use Rattle.pool_laws.proofs.Lists.{all_behind, all_so, same_link}
+use Rattle.list_laws.proofs.Options.{one_value}
 use Rattle.pool_laws.proofs.Rising.{by_some}
 use Rattle.pool_laws.proofs.Following.{off, own_link, request_is}
 use Rattle.pool_laws.proofs.Owning.{after_link}
@@ -52,7 +52,7 @@ use Rattle.request_pool.proofs.Risen.{Fares, fares_first, running_fares, on_its}
 use Rattle.request_pool.proofs.Steps.{in_line, suits_lined}
 use Rattle.request_pool.proofs.Holding.{lined_held, running_holds, no_came}
 use Rattle.request_pool.proofs.Bounds.{runs_bounds, lines_bounds}
-use Rattle.http_ends.proofs.Lists.{all_append, all_front}
+use Rattle.list_laws.proofs.Each.{all_append, all_front, all_back, all_so}
 use Rattle.pool_laws.proofs.HeldLinks.{LinksKept, Owning, owning_is_kept, any_asks, asks_in, all_held, waits_only}
 use Rattle.pool_laws.proofs.KeptBySteps.{IsKept, IsKeptWhileOn, running_goes, by_line, by_running, by_step}
 use Rattle.pool_laws.proofs.Running.{answers_are_kept, given_up_owned}
@@ -84,7 +84,7 @@ open_polled e f rest a b t h =
 open_dropped : (o : Option ℕ) (rest : ℕ → ℕ) (a : WireState) → ClosedOn o a → OpenHeld (λ k. on_link o k + rest k) a → OpenHeld rest a
 open_dropped None rest a closed h = record { at = λ k. omega (arith, h.at k) }
 open_dropped (Some i) rest a closed h = record {
-  at = λ k. elim (at_or_off i k) [
+  at = λ k. elim (cases_eq i k) [
     | inl e ↦ omega (arith, closed_none (a.links k).is_open (subst (λ (x : ℕ). (a.links x).is_open ≡ false) e closed))
     | inr n ↦ omega (arith, h.at k, on_other i k n)
   ];
@@ -93,7 +93,7 @@ open_dropped (Some i) rest a closed h = record {
 open_shut : (o : Option ℕ) (rest : ℕ → ℕ) (a b : WireState) → Shuts o a b → OpenHeld (λ k. on_link o k + rest k) a → OpenHeld rest b
 open_shut None rest a b s h = subst (λ (x : WireState). OpenHeld rest x) (sym s) (open_dropped None rest a tt h)
 open_shut (Some i) rest a b c h = record {
-  at = λ k. elim (at_or_off i k) [
+  at = λ k. elim (cases_eq i k) [
     | inl e ↦ omega (arith, closed_none (b.links k).is_open (subst (λ (x : ℕ). (b.links x).is_open ≡ false) e c.is_open))
     | inr n ↦ omega (arith, h.at k, on_other i k n, same_open a b k (c.only.others k (λ e. n (sym e))))
   ];
@@ -223,11 +223,11 @@ held_awake (f ∷ fs) a k w h = elim (cases_lt 0 (on_link f.exchange.link k)) [ 
   where
     its_awake : (o : Option ℕ) → 0 < on_link o k → IsAwake a o
     its_awake None some = absurd (omega (arith, some))
-    its_awake (Some i) some = elim (at_or_off i k) [ inl e ↦ subst (λ (x : ℕ). (a.links x).woken ≡ true) (sym e) w | inr n ↦ absurd (off (on_link (Some i) k) k (on_other i k n) some) ]
+    its_awake (Some i) some = elim (cases_eq i k) [ inl e ↦ subst (λ (x : ℕ). (a.links x).woken ≡ true) (sym e) w | inr n ↦ absurd (off (on_link (Some i) k) k (on_other i k n) some) ]
 
 spare_stalled : (ss : List Spare) (a : WireState) (k : ℕ) → AllByRecursion (λ s. (a.links s.link).stalled ≡ None) ss → 0 < spare_on ss k → (a.links k).stalled ≡ None
 spare_stalled [] a k h some = absurd (omega (arith, some))
-spare_stalled (s ∷ ss) a k h some = elim (at_or_off s.link k) [
+spare_stalled (s ∷ ss) a k h some = elim (cases_eq s.link k) [
   | inl e ↦ subst (λ (x : ℕ). (a.links x).stalled ≡ None) e h.0
   | inr n ↦ spare_stalled ss a k h.1 (omega (arith, some, on_other s.link k n))
 ]
@@ -450,7 +450,7 @@ module _ (since : WireState) (steady : since.nature.steady ≡ true) where
       let o = t.1.3 in
       let all = subst (λ (l : List Spare). AllByRecursion (λ s. (a.links s.link).stalled ≡ None) l) o.is_old h in
       subst (λ (l : List Spare). AllByRecursion (λ s. (a.links s.link).stalled ≡ None) l) (sym o.is_new)
-      (all_append (λ (s : Spare). (a.links s.link).stalled ≡ None) o.before o.after (all_front _ o.before (t.1.0 ∷ o.after) all) (all_behind (λ (s : Spare). (a.links s.link).stalled ≡ None) o.before (t.1.0 ∷ o.after) all).1)
+      (all_append (λ (s : Spare). (a.links s.link).stalled ≡ None) o.before o.after (all_front _ o.before (t.1.0 ∷ o.after) all) (all_back (λ (s : Spare). (a.links s.link).stalled ≡ None) o.before (t.1.0 ∷ o.after) all).1)
 
   same_first : (v w : Waiting) (xs ys : List Waiting) → v ∷ xs ≡ w ∷ ys → v ≡ w
   same_first v w xs ys e = cc
@@ -675,7 +675,7 @@ module _ (since : WireState) (steady : since.nature.steady ≡ true) where
       record {
         lists = settle_lists (left_link t.1.now) t.1.now.address p q t.0 b
             (λ k e. own_link (poll.Ready (Ok answer)) f p a t.0 g o.owns t.1 k (left_is t.1.now.standing t.1.now.link k e).1)
-            (λ k e. let l = left_is t.1.now.standing t.1.now.link k e in subst (λ (x : ℕ). (t.0.links x).stalled ≡ None) (same_link t.1.now.link r.k k r.link l.1) (r.is_open l.0).1)
+            (λ k e. let l = left_is t.1.now.standing t.1.now.link k e in subst (λ (x : ℕ). (t.0.links x).stalled ≡ None) (one_value t.1.now.link r.link l.1) (r.is_open l.0).1)
             t.3 (lists_same p a t.0 (others_same (poll.Ready (Ok answer)) f p a t.0 g o.owns t.1) o.lists);
         room = omega (arith, ap (λ (l : List Flight). length l) same.0, same.1, o.room);
         moves = Moved (same.2 ∙ r.idle);

@@ -4,10 +4,10 @@ use Rattle.std.specs.List.{AllByRecursion, flat_map}
 use Rattle.tpf_base.specs.Addresses.{Address}
 use Rattle.tpf_base.specs.Links.{Link}
 use Rattle.http_ends.specs.Requests.{request_for, RequestParts, parts_text, parts_of, IsPlain, AddressesArePlain, HasNoRequest, PartsHaveNone, RequestsAreCut}
-use Rattle.http_ends.proofs.Lists.{all_append}
+use Rattle.list_laws.proofs.Each.{all_append}
 use Rattle.pool_laws.specs.Following.{IsWebAddress}
 use Rattle.pool_laws.specs.Sending.{requests_for}
-use Rattle.pool_laws.specs.Requested.{Exchanged, IsAnswered, addresses_of, LastRequest, NoneWhole, Unanswered, Replied, LinkRequests, last_whole, whole_requests, IsProperPart, Nothing, FrontOf, IsLast, TellsRequests, RequestsAreOne}
+use Rattle.pool_laws.specs.Requested.{Exchanged, IsAnswered, addresses_exchanged, LastRequest, NoneWhole, Unanswered, Replied, LinkRequests, last_whole, whole_requests, IsProperPart, Nothing, FrontOf, IsLast, TellsRequests, RequestsAreOne}
 use Rattle.pool_laws.proofs.Following.{flat-append}
 
 same_texts : (xs : List Address) → flat_map parts_text (map parts_of xs) ≡ requests_for xs
@@ -18,7 +18,7 @@ each_text : (xs : List Address) → map request_for xs ≡ map parts_text (map p
 each_text [] = refl
 each_text (x ∷ xs) = ap (λ (t : List (List ℕ)). request_for x ∷ t) (each_text xs)
 
-are_addresses : (limit : ℕ) (answered : List Exchanged) → AllByRecursion (IsAnswered limit) answered → AllByRecursion IsWebAddress (addresses_of answered)
+are_addresses : (limit : ℕ) (answered : List Exchanged) → AllByRecursion (IsAnswered limit) answered → AllByRecursion IsWebAddress (addresses_exchanged answered)
 are_addresses limit [] all = tt
 are_addresses limit (x ∷ xs) all = (all.0.is_address, are_addresses limit xs all.1)
 
@@ -61,7 +61,7 @@ module _ (plain : AddressesArePlain) (parts : PartsHaveNone) (cut : RequestsAreC
   cut_last limit link (Replied address) xs sent part received all h e = whole_last xs address sent part all h.0 h.1 e
 
   cut_of : (limit : ℕ) (link : Link) (r : LinkRequests) (sent : List ℕ) → link.sent ≡ Some sent → TellsRequests limit link r → CutAs (whole_requests r) sent
-  cut_of limit link r sent told h = cut_last limit link r.last (addresses_of r.answered) sent h.sent h.received (are_addresses limit r.answered h.answered) h.last (h.sent_is sent told)
+  cut_of limit link r sent told h = cut_last limit link r.last (addresses_exchanged r.answered) sent h.sent h.received (are_addresses limit r.answered h.answered) h.last (h.sent_is sent told)
 
   one_way : (xs ys : List Address) (sent : List ℕ) → CutAs xs sent → CutAs ys sent → map request_for xs ≡ map request_for ys
   one_way xs ys sent c d =

@@ -1,7 +1,7 @@
 -- Where no more was sent than was asked for, and all was answered, just that was sent.
 use Rattle.std.proofs.Common.{ℕ, zero, suc, ◌≡◌, ◌+◌, ◌-◌, ◌≤◌, ◌++◌, Bool, true, false, not, cond, List, [], ◌∷◌, length, count_by, arith}
 use Rattle.tpf_base.specs.Addresses.{Address}
-use Rattle.pool_laws.specs.Requested.{LastRequest, NoneWhole, Unanswered, Replied, LinkRequests, addresses_of, last_whole, last_answered, whole_requests, whole_answers, over_links, count_sent, count_answered, any, RequestsAreExact}
+use Rattle.pool_laws.specs.Requested.{LastRequest, NoneWhole, Unanswered, Replied, LinkRequests, addresses_exchanged, last_whole, last_answered, whole_requests, whole_answers, over_links, count_sent, count_answered, any, RequestsAreExact}
 use Rattle.pool_laws.proofs.Counts.{count-cons, count-one, count-nil, all_count}
 use Rattle.pool_laws.proofs.RequestLaws.{asks_answered}
 
@@ -12,8 +12,8 @@ last_sent test xs NoneWhole = omega arith
 last_sent test xs (Unanswered address) = omega (arith, count-nil test xs, count-one test xs address)
 last_sent test xs (Replied address) = omega arith
 
-answered_sent : (test : Address → Bool) (r : LinkRequests) → count_by test (whole_answers r) ≤ count_by test (whole_requests r)
-answered_sent test r = last_sent test (addresses_of r.answered) r.last
+pub answered_sent : (test : Address → Bool) (r : LinkRequests) → count_by test (whole_answers r) ≤ count_by test (whole_requests r)
+answered_sent test r = last_sent test (addresses_exchanged r.answered) r.last
 
 over_most : (f g : ℕ → ℕ) (first n : ℕ) → ((i : ℕ) → f i ≤ g i) → over_links f first n ≤ over_links g first n
 over_most f g first zero h = omega arith

@@ -21,7 +21,7 @@ use Rattle.request_pool.specs.Steps.{WaitsTo, Passes, Stalls, Misses, Lacks, End
 use Rattle.request_pool.proofs.Holding.{lined_held, running_holds, step_holds}
 use Rattle.request_pool.proofs.Risen.{fares_first, running_fares}
 use Rattle.request_pool.proofs.Steps.{suits_lined}
-use Rattle.http_ends.proofs.Lists.{all_append}
+use Rattle.list_laws.proofs.Each.{all_append}
 use Rattle.pool_laws.specs.Following.{IsWebAddress}
 use Rattle.pool_laws.specs.Requested.{NoneWhole, over_links, count_sent, count_answered, any, whole_requests, whole_answers, left_waiting, left_flying, unsent, RequestedSince, AnsweredSince, RequestsAreFew, RequestsAreStarted, RequestsAreRises, AsksAreAnswered, EmptyPoolsRequested, EmptyPoolsAnswered, PutsRequested, PutsAnswered, FaultsRequested, StepsRequested, StepsAnswered, ClosingRequested, ClosingAnswered}
 use Rattle.pool_laws.specs.Spending.{AnsweredMost, BudgetsAnswered, ClosingAnsweredMost}
@@ -149,7 +149,7 @@ asks_answered asked since pool wire h none test =
 
 -- ---- an empty pool
 
-none_given : (count : ℕ → ℕ) (n : ℕ) → over_links count n (n - n) ≡ 0
+pub none_given : (count : ℕ → ℕ) (n : ℕ) → over_links count n (n - n) ≡ 0
 none_given count n = let e : n - n ≡ 0 = omega arith in ap (λ (m : ℕ). over_links count n m) e
 
 none_counted : (s c : ℕ) → s ≡ 0 → s + (0 + 0) ≤ c

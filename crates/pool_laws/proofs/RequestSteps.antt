@@ -28,15 +28,14 @@ use Rattle.request_pool.specs.Runs.{Begins, Starts, Overruns, Flies, Starves, Po
 use Rattle.request_pool.specs.Steps.{GivesUp}
 use Rattle.request_pool.proofs.Suits.{Owns, owns_begun, owns_next, left_is}
 use Rattle.pool_laws.specs.Following.{IsWebAddress}
-use Rattle.pool_laws.specs.Requested.{Exchanged, addresses_of, replies_of, LastRequest, NoneWhole, Unanswered, LinkRequests, count_sent, any, times_sent, left_waiting, left_flying, unsent, IsOn, OwnRequests, RequestsOn}
+use Rattle.pool_laws.specs.Requested.{Exchanged, addresses_exchanged, replies_of, LastRequest, NoneWhole, Unanswered, LinkRequests, count_sent, any, times_sent, left_waiting, left_flying, unsent, IsOn, OwnRequests, RequestsOn}
 use Rattle.pool_laws.specs.Sending.{requests_for}
-use Rattle.pool_laws.proofs.Lists.{all_behind}
 use Rattle.pool_laws.proofs.Following.{request_is}
 use Rattle.pool_laws.proofs.HeldLinks.{left_or_over, waits_only}
 use Rattle.pool_laws.proofs.KeptBySteps.{IsKept}
 use Rattle.pool_laws.proofs.Trying.{few_is_kept}
 use Rattle.request_pool.proofs.Holding.{held_with, held_out, begun_holds, no_came, settles_held}
-use Rattle.http_ends.proofs.Lists.{all_append, all_front}
+use Rattle.list_laws.proofs.Each.{all_append, all_front, all_back}
 use Rattle.pool_laws.proofs.Counts.{count-cons, left-append, unsent-append, sent_on, started_on}
 use Rattle.pool_laws.proofs.Requesting.{still_before, last_by, sent_once, first_unsent, none_sent, no_link, pending_puts, fault_puts, over_puts, left_puts, is_limited, address_after}
 use Rattle.pool_laws.proofs.Requests.{left, idle, Known, Apart, Moved, moved, known_as, over, waits_again, goes_on, all_told, shut_known, shut_or, settles_known, answered, fewer}
@@ -117,7 +116,7 @@ module _ (limit : ℕ) (since : WireState) (r : ℕ) (cap least : (Address → B
         are_answered = s.own.are_answered;
         is_address = address_after limit since f a b s.all s.own poll.Pending h;
         is_limit = is_limited limit since f a b s.all s.own poll.Pending h;
-        stands = h.answers.stands (requests_for (addresses_of s.own.answered)) (replies_of s.own.answered) s.own.stands;
+        stands = h.answers.stands (requests_for (addresses_exchanged s.own.answered)) (replies_of s.own.answered) s.own.stands;
         front = record { rest = h.answers.front.rest; is_whole = sym (request_is h.now.address) ∙ h.answers.front.is_whole };
         on = on_now h.now.link m.all s.own.answered (last_by h.now.address h.now.sent) m.low m.at (no_link h.now.link h.answers.k h.answers.link);
       })
@@ -215,7 +214,7 @@ module _ (limit : ℕ) (since : WireState) (r : ℕ) (cap least : (Address → B
   taken all start a first old spare (Some k) is same h t =
       let o = t.1.3 in
       let every = subst (λ (l : List Spare). AllByRecursion (λ s. RequestsOn limit since all a s) l) o.is_old h in
-      let behind = all_behind (λ (s : Spare). RequestsOn limit since all a s) o.before (t.1.0 ∷ o.after) every in
+      let behind = all_back (λ (s : Spare). RequestsOn limit since all a s) o.before (t.1.0 ∷ o.after) every in
       record {
         own = for_other all start a t.1.0 first.address k is same t.1.1 behind.0;
         left = subst (λ (l : List Spare). AllByRecursion (λ s. RequestsOn limit since all a s) l) (sym o.is_new)

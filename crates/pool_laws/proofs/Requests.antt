@@ -1,7 +1,7 @@
 -- What was requested and answered on each link that was given since a moment, after each part of a step.
 use Rattle.std.proofs.Common.{ℕ, ◌≡◌, ◌+◌, ◌-◌, ◌<◌, ◌≤◌, ◌⊎◌, inl, inr, ◌++◌, Bool, cond, List, [], ◌∷◌, count_by, Option, Some, None, Result, refl, sym, ◌∙◌, ap, subst, arith}
 use Rattle.std.specs.List.{AllByRecursion}
-use Rattle.std.proofs.lemmas.Bool.{cases_lt}
+use Rattle.std.proofs.lemmas.Bool.{cases_lt, cases_eq}
 use Rattle.futures.specs.declared.task.Poll.{Poll}
 use Rattle.tpf_base.specs.Addresses.{Address, authority_of}
 use Rattle.tpf_base.specs.Links.{WireState, OpensGiven}
@@ -16,11 +16,11 @@ use Rattle.request_pool.specs.declared.asks.Spare.{Spare}
 use Rattle.request_pool.specs.Pools.{Pooled}
 use Rattle.request_pool.specs.Owned.{on_link, held_on}
 use Rattle.request_pool.specs.Polls.{Shuts, Settles, NoLink, Kept, Shut, Polls}
-use Rattle.request_pool.proofs.Owned.{at_or_off, linked_open}
+use Rattle.request_pool.proofs.Owned.{linked_open}
 use Rattle.request_pool.proofs.Suits.{Owns}
-use Rattle.http_ends.proofs.Lists.{all_append}
+use Rattle.list_laws.proofs.Each.{all_append}
 use Rattle.pool_laws.specs.Following.{IsWebAddress}
-use Rattle.pool_laws.specs.Requested.{Exchanged, addresses_of, LastRequest, LinkRequests, TellsRequests, over_links, count_sent, count_answered, any, times_sent, whole_requests, whole_answers, left_waiting, left_flying, unsent, IsOn, OwnRequests, RequestsOn}
+use Rattle.pool_laws.specs.Requested.{Exchanged, addresses_exchanged, LastRequest, LinkRequests, TellsRequests, over_links, count_sent, count_answered, any, times_sent, whole_requests, whole_answers, left_waiting, left_flying, unsent, IsOn, OwnRequests, RequestsOn}
 use Rattle.pool_laws.proofs.Following.{SameTold, told_same, off, own_link, polled_address}
 use Rattle.pool_laws.proofs.Owning.{After, after_link, off_link}
 use Rattle.pool_laws.proofs.Trying.{Few}
@@ -128,8 +128,8 @@ module _ (limit : ℕ) (since : WireState) (r : ℕ) (cap least : (Address → B
     sent_is : (test : Address → Bool) → count_sent test (put_at h.now.link x.x s.all) since b + cond (test f.exchange.address) (times_sent f.exchange) 0 ≡ count_sent test s.all since a + cond (test f.exchange.address) x.own 0
     sent_is test =
         sent_moves limit since s.own.answered s.all x.x test f.exchange.address f.exchange.address f.exchange.link h.now.link (last_by f.exchange.address f.exchange.sent) (times_sent f.exchange) x.own a b h.touches.link s.later below s.own.on unsent_none x.none
-        (own_count (is_all f.exchange.address f.exchange.sent) test (addresses_of s.own.answered) f.exchange.address)
-        (x.sent test ∙ ap (λ (v : Bool). count_by test (addresses_of s.own.answered) + cond v x.own 0) (same_test test))
+        (own_count (is_all f.exchange.address f.exchange.sent) test (addresses_exchanged s.own.answered) f.exchange.address)
+        (x.sent test ∙ ap (λ (v : Bool). count_by test (addresses_exchanged s.own.answered) + cond v x.own 0) (same_test test))
 
     pub moved : Moved f h.now.address h.now.link x.x x.own x.gain p b
     moved = record {
@@ -153,7 +153,7 @@ module _ (limit : ℕ) (since : WireState) (r : ℕ) (cap least : (Address → B
       starts = λ y i. started_on (count_sent any s.all since a) (count_sent any (put_at h.now.link x.x s.all) since b) (times_sent f.exchange) x.own y (idle p) p.started (sent_once f.exchange) (sent_is any) s.starts i;
       answers = λ test. least_after (least test) (count_answered test s.all since a) (x.gain test) (count_answered test (put_at h.now.link x.x s.all) since b) (s.answers test)
           (answers_move limit since s.own.answered s.all x.x test (x.gain test) f.exchange.address f.exchange.link h.now.link (last_by f.exchange.address f.exchange.sent) a b h.touches.link s.later below s.own.on (λ n. x.no_gain n test)
-          (own_answers (is_all f.exchange.address f.exchange.sent) test (addresses_of s.own.answered) f.exchange.address) (x.answers test));
+          (own_answers (is_all f.exchange.address f.exchange.sent) test (addresses_exchanged s.own.answered) f.exchange.address) (x.answers test));
     }
       where
         least_after : (m n g k : ℕ) → m ≤ n → n + g ≤ k → m + g ≤ k
@@ -243,7 +243,7 @@ module _ (limit : ℕ) (since : WireState) (r : ℕ) (cap least : (Address → B
       counted_le s s' l c e i = omega (arith, e, i)
 
   closed_told : (i : ℕ) (a b : WireState) → Closes i a b → (k : ℕ) → StillTold (a.links k) (b.links k)
-  closed_told i a b c k = elim (at_or_off k i) [
+  closed_told i a b c k = elim (cases_eq k i) [
     | inl e ↦ subst (λ (y : ℕ). StillTold (a.links y) (b.links y)) (sym e) (record { same = record { peer = c.peer; sent = c.sent; received = c.received }; ended = c.ended })
     | inr n ↦ still_same (a.links k) (b.links k) (c.only.others k n)
   ]

@@ -1,5 +1,5 @@
 -- Each failure of an ask is a rise of the wire's faults.
-use Rattle.std.proofs.Common.{ℕ, ◌≡◌, ◌+◌, ◌<◌, ◌≤◌, ◌⊎◌, inl, inr, ◌++◌, List, [], ◌∷◌, map, length, length-append, Option, Some, None, true, false, Result, Ok, Err, refl, sym, ◌∙◌, ap, ap₂, subst, arith}
+use Rattle.std.proofs.Common.{ℕ, ◌≡◌, ◌+◌, ◌<◌, ◌≤◌, ◌⊎◌, inl, inr, ◌++◌, List, [], ◌∷◌, map, length, length-append, Option, true, false, Result, Ok, Err, refl, sym, ◌∙◌, ap, ap₂, subst, arith}
 use Rattle.std.specs.Prelude.{◌^◌, IfErr}
 use Rattle.std.specs.List.{AllByRecursion}
 use Rattle.futures.specs.declared.task.Poll.TheVariants as poll
@@ -34,12 +34,11 @@ use Rattle.request_pool.proofs.Suits.{Owns, owns_begun, owns_next, waits_suits}
 use Rattle.request_pool.proofs.Risen.{fares_first, running_fares}
 use Rattle.request_pool.proofs.Steps.{in_line, suits_lined}
 use Rattle.request_pool.proofs.Bounds.{flight_bounds, starts_bounds}
-use Rattle.http_ends.proofs.Lists.{all_append, all_front}
+use Rattle.list_laws.proofs.Each.{all_append, all_front, all_back, all_so, all_unmap}
 use Rattle.pool_laws.specs.Following.{Follows, AnswersSoFar}
 use Rattle.pool_laws.specs.Causes.{RepliedOn}
 use Rattle.pool_laws.specs.Answers.{TellsAll}
 use Rattle.pool_laws.specs.Rising.{IsServed, IsServedBySome, FailuresRose, EndsByRises, EmptyPoolsRose, PutsRose, FaultsRose, StepsRose, StepsRoseBySome}
-use Rattle.pool_laws.proofs.Lists.{all_behind, all_unmap, all_so}
 use Rattle.pool_laws.proofs.Following.{begun, own_link}
 use Rattle.pool_laws.proofs.KeptBySteps.{IsKept, IsKeptByTurns, running_keeps, last_keeps}
 use Rattle.pool_laws.proofs.HeldLinks.{LinksKept, AsksAt, Owning, owning_is_kept}
@@ -87,7 +86,7 @@ rises_in before asked p a h = record {
   later = h.later;
   waiting = h.waiting;
   polled = all_front (λ (f : Flight). RoseBy f.failed before a.faults) p.polled p.due h.flying;
-  due = all_behind (λ (f : Flight). RoseBy f.failed before a.faults) p.polled p.due h.flying;
+  due = all_back (λ (f : Flight). RoseBy f.failed before a.faults) p.polled p.due h.flying;
   failures = h.failures;
   all = h.all;
   few = h.few;
@@ -512,11 +511,11 @@ module _ (allows : List ℕ → ℕ → List ℕ → List ℕ → Type 0) (limit
 
   served_in : (p : Pooled) → AllByRecursion (λ ask. Served ask.address) (held p) → AsksAt Served p
   served_in p all =
-      let flying = all_unmap (λ (ask : Ask). Served ask.address) ask_flying (in_flight p) (all_behind (λ (ask : Ask). Served ask.address) (map ask_waiting p.waiting) (map ask_flying (in_flight p)) all) in
+      let flying = all_unmap ask_flying (λ (ask : Ask). Served ask.address) (in_flight p) (all_back (λ (ask : Ask). Served ask.address) (map ask_waiting p.waiting) (map ask_flying (in_flight p)) all) in
       record {
-        waiting = all_unmap (λ (ask : Ask). Served ask.address) ask_waiting p.waiting (all_front (λ (ask : Ask). Served ask.address) (map ask_waiting p.waiting) (map ask_flying (in_flight p)) all);
+        waiting = all_unmap ask_waiting (λ (ask : Ask). Served ask.address) p.waiting (all_front (λ (ask : Ask). Served ask.address) (map ask_waiting p.waiting) (map ask_flying (in_flight p)) all);
         polled = all_front (λ (f : Flight). Served f.exchange.address) p.polled p.due flying;
-        due = all_behind (λ (f : Flight). Served f.exchange.address) p.polled p.due flying;
+        due = all_back (λ (f : Flight). Served f.exchange.address) p.polled p.due flying;
       }
 
   all_short : EndsAreTrue → (times : ℕ → ℕ) (after : WireState) → limit < 2 ^ 64 → TellsAll allows after → AreShort times after

@@ -14,9 +14,10 @@ use Rattle.request_pool.specs.Pools.{Pooled, in_flight}
 use Rattle.request_pool.specs.Owned.{on_link, flights_on, held_on, open_on, SuitsWire}
 use Rattle.request_pool.specs.Polls.{FailsTo}
 use Rattle.request_pool.specs.Steps.{IsWait, GivesUp}
-use Rattle.request_pool.proofs.Owned.{at_or_off, flights_on-append}
+use Rattle.std.proofs.lemmas.Bool.{cases_eq}
+use Rattle.request_pool.proofs.Owned.{flights_on-append}
 use Rattle.request_pool.proofs.Suits.{own_none, owns_begun, owns_next}
-use Rattle.http_ends.proofs.Lists.{all_append}
+use Rattle.list_laws.proofs.Each.{all_append}
 use Rattle.pool_laws.specs.Following.{IsWebAddress, Follows, AnswersSoFar}
 use Rattle.pool_laws.proofs.Following.{SameTold, told_same, pool_told, shut_told, starts_follow, next_follows}
 use Rattle.pool_laws.proofs.KeptBySteps.{IsKept}
@@ -33,7 +34,7 @@ gathered_follows p a h = record { waiting = h.waiting; polled = all_append (λ (
 
 woken_told : (answer : Ready) (a b : WireState) → Wakes answer a b → (k : ℕ) → SameTold (a.links k) (b.links k)
 woken_told ready.Door a b w k = told_same (a.links k) (b.links k) (w.1 k)
-woken_told (ready.Link i) a b w k = elim (at_or_off k i) [
+woken_told (ready.Link i) a b w k = elim (cases_eq k i) [
   | inl e ↦ subst (λ (x : ℕ). SameTold (a.links x) (b.links x)) (sym e)
       (record { peer = ap (λ (x : Link). x.peer) w.1; sent = ap (λ (x : Link). x.sent) w.1; received = ap (λ (x : Link). x.received) w.1 })
   | inr n ↦ told_same (a.links k) (b.links k) (w.2 k n)

@@ -1,7 +1,7 @@
 -- What was sent on the links that were given since a moment, after each part of a step.
 use Rattle.std.proofs.Common.{ℕ, ◌≡◌, ◌+◌, ◌<◌, ◌≤◌, ◌⊎◌, inl, inr, ◌++◌, List, [], ◌∷◌, Option, Some, None, Result, Ok, Err, refl, sym, ◌∙◌, ap, subst, arith, append-nil}
 use Rattle.std.specs.List.{AllByRecursion, Contains}
-use Rattle.std.proofs.lemmas.Bool.{cases_lt}
+use Rattle.std.proofs.lemmas.Bool.{cases_lt, cases_eq}
 use Rattle.futures.specs.declared.task.Poll.{Poll}
 use Rattle.futures.specs.declared.task.Poll.TheVariants as poll
 use Rattle.tpf_base.specs.Addresses.{Address, authority_of}
@@ -30,13 +30,12 @@ use Rattle.request_pool.specs.Closing.{ClosesSome}
 use Rattle.request_pool.specs.Polls.{Shuts, Settles, NoLink, Kept, Shut, TakesLink, FailsTo, Polls, FlightTo}
 use Rattle.request_pool.specs.Runs.{Begins, Starts, Overruns, Flies, Starves, PollsNext}
 use Rattle.request_pool.specs.Steps.{IsWait, GivesUp}
-use Rattle.request_pool.proofs.Owned.{at_or_off}
 use Rattle.request_pool.proofs.Suits.{Owns, owns_begun, owns_next, left_is}
-use Rattle.http_ends.proofs.Lists.{all_append, all_front}
+use Rattle.list_laws.proofs.Each.{all_append, all_front, all_back}
 use Rattle.request_pool.proofs.Risen.{some_is, on_its}
 use Rattle.tpf_base.proofs.SendingLemmas.{holds_same}
 use Rattle.pool_laws.specs.Sending.{Nothing, FrontOf, requests_for, SendsFor, SendsOwn, SentSince, EmptyPoolsSent, PutsSent, FaultsSent, StepsSent, ClosingSent, SendsOn}
-use Rattle.pool_laws.proofs.Lists.{all_behind, same_link}
+use Rattle.list_laws.proofs.Options.{one_value}
 use Rattle.pool_laws.proofs.Following.{SameTold, told_same, stands_as, holds_is, off, own_link, flat-append, request_is}
 use Rattle.pool_laws.proofs.Owning.{after_link}
 use Rattle.pool_laws.proofs.Requesting.{front_for, on_is}
@@ -103,7 +102,7 @@ module _ (asked : Address → Type 0) where
 
   ends_sent : (old new : Exchanging) (a b : WireState) (received : List ℕ) (k : ℕ) → new.link ≡ Some k → Ends old new a b received → asked new.address → SendsOwn asked a old → SendsFor asked (b.links k)
   ends_sent old new a b received k e h is s =
-      subst (λ (x : ℕ). SendsFor asked (b.links x)) (same_link new.link h.k k h.link e)
+      subst (λ (x : ℕ). SendsFor asked (b.links x)) (one_value new.link h.link e)
       (whole_sent new.address s.whole (b.links h.k) is s.are_asked (h.sent_is (requests_for s.whole) s.received s.stands))
 
   stands_sent : (s r : List ℕ) (e : Exchanging) (o : Option ℕ) (k : ℕ) (b : WireState) → o ≡ Some k → StandsOn s r e o b → Holds (b.links k).sent (s ++ e.sent)
@@ -119,7 +118,7 @@ module _ (asked : Address → Type 0) where
     sent_is = stands_sent (requests_for s.whole) s.received h.now h.now.link k b e (h.answers.stands (requests_for s.whole) s.received s.stands);
   }
   polled_sent (poll.Ready (Ok answer)) f a b h is s k e =
-      subst (λ (x : ℕ). SendsFor asked (b.links x)) (same_link h.now.link h.answers.k k h.answers.link e)
+      subst (λ (x : ℕ). SendsFor asked (b.links x)) (one_value h.now.link h.answers.link e)
       (whole_sent h.now.address s.whole (b.links h.answers.k) is s.are_asked (h.answers.sent_is (requests_for s.whole) s.received s.stands))
   polled_sent (poll.Ready (Err exchanges.Failed)) f a b h is s k e = front_sent f.exchange h.now a b h.now.link k e h.answers.breaks.front is s
   polled_sent (poll.Ready (Err (exchanges.Cut received))) f a b h is s k e = ends_sent f.exchange h.now a b received k e h.answers.ends is s
@@ -144,7 +143,7 @@ module _ (asked : Address → Type 0) where
   left_sends : (limit : ℕ) (f : Flight) (a b : WireState) (answer : Reply) (h : Polls (poll.Ready (Ok answer)) f a b) (k : ℕ) → left_link h.now ≡ Some k → SendsOwn asked a f.exchange → SendsOwn asked b (starting h.now.address limit (Some k))
   left_sends limit f a b answer h k e s =
       let r = h.answers in
-      let at = same_link h.now.link r.k k r.link (left_is h.now.standing h.now.link k e).1 in
+      let at = one_value h.now.link r.link (left_is h.now.standing h.now.link k e).1 in
       let is = asked_polled (poll.Ready (Ok answer)) f a b h s in
       record {
         is_asked = is;
@@ -176,7 +175,7 @@ module _ (asked : Address → Type 0) where
     }
 
     closed_told : (i : ℕ) (a b : WireState) → Closes i a b → (k : ℕ) → SameTold (a.links k) (b.links k)
-    closed_told i a b c k = elim (at_or_off k i) [
+    closed_told i a b c k = elim (cases_eq k i) [
       | inl e ↦ subst (λ (x : ℕ). SameTold (a.links x) (b.links x)) (sym e) (record { peer = c.peer; sent = c.sent; received = c.received })
       | inr n ↦ told_same (a.links k) (b.links k) (c.only.others k n)
     ]
@@ -271,7 +270,7 @@ module _ (asked : Address → Type 0) where
     taken p a first spare (Some k) is h t =
         let o = t.1.3 in
         let all = subst (λ (l : List Spare). AllByRecursion (λ s. SendsOn asked p.limit a s) l) o.is_old h in
-        let behind = all_behind (λ (s : Spare). SendsOn asked p.limit a s) o.before (t.1.0 ∷ o.after) all in
+        let behind = all_back (λ (s : Spare). SendsOn asked p.limit a s) o.before (t.1.0 ∷ o.after) all in
         record {
           own = for_other p.limit a t.1.0 first.address k t.1.1 is behind.0;
           left = subst (λ (l : List Spare). AllByRecursion (λ s. SendsOn asked p.limit a s) l) (sym o.is_new)

@@ -5,7 +5,7 @@ use Rattle.tpf_base.specs.Links.{Link, WireState}
 use Rattle.tpf_base.specs.Calls.{Closes}
 use Rattle.request_pool.specs.Pools.{Pooled}
 use Rattle.request_pool.specs.Polls.{Shuts, Settles, NoLink, Kept, Shut}
-use Rattle.request_pool.proofs.Owned.{at_or_off}
+use Rattle.std.proofs.lemmas.Bool.{cases_eq}
 
 -- the same is told of it
 pub record SameWhole (old new : Link) : Type 0 where
@@ -25,7 +25,7 @@ whole_same old new e = record {
 }
 
 pub closed_whole : (i : ℕ) (a b : WireState) → Closes i a b → (k : ℕ) → SameWhole (a.links k) (b.links k)
-closed_whole i a b c k = elim (at_or_off k i) [
+closed_whole i a b c k = elim (cases_eq k i) [
   | inl e ↦ subst (λ (x : ℕ). SameWhole (a.links x) (b.links x)) (sym e) (record { peer = c.peer; sent = c.sent; received = c.received; owed = c.owed; ended = c.ended })
   | inr n ↦ whole_same (a.links k) (b.links k) (c.only.others k n)
 ]

@@ -19,15 +19,14 @@ use Rattle.request_pool.specs.Polls.{Settles, NoLink, Kept, Shut, FailsTo, Fligh
 use Rattle.request_pool.specs.Runs.{Begins, Starts, Overruns, Flies, Starves, PollsNext, Turn, Start, Next, Round, Moment, Runs, Running, Last, OfStart, OfPoll, is_end}
 use Rattle.request_pool.specs.Steps.{GivesUp, WaitsTo, Passes, Stalls, Misses, Lacks, Lines, EndsInRun, EndsInFault, AtOnce, InRun, InWait}
 use Rattle.request_pool.proofs.Steps.{in_line, suits_lined}
-use Rattle.http_ends.proofs.Lists.{all_append, all_front}
+use Rattle.list_laws.proofs.Each.{all_append, all_front, all_back}
 use Rattle.request_pool.proofs.Holding.{end_of}
 use Rattle.pool_laws.specs.Counting.{tries_waiting, tries_flying, tries, FewFailed, StartsAreTries, StepsCountTries, EmptyPoolsFewFailed, PutsFewFailed, StepsFewFailed}
-use Rattle.pool_laws.proofs.Lists.{all_behind}
 use Rattle.pool_laws.proofs.KeptBySteps.{IsKept, by_running, by_step}
 
-tries-append : (xs ys : List Flight) → tries_flying (xs ++ ys) ≡ tries_flying xs + tries_flying ys
-tries-append [] ys = omega arith
-tries-append (x ∷ xs) ys = omega (arith, tries-append xs ys)
+pub tries_append : (xs ys : List Flight) → tries_flying (xs ++ ys) ≡ tries_flying xs + tries_flying ys
+tries_append [] ys = omega arith
+tries_append (x ∷ xs) ys = omega (arith, tries_append xs ys)
 
 -- ---- no ask failed too often
 
@@ -105,7 +104,7 @@ few_in p h = record {
   is = refl;
   waiting = h.waiting;
   polled = all_front (λ (f : Flight). f.failed ≤ p.retries) p.polled p.due h.flying;
-  due = all_behind (λ (f : Flight). f.failed ≤ p.retries) p.polled p.due h.flying;
+  due = all_back (λ (f : Flight). f.failed ≤ p.retries) p.polled p.due h.flying;
 }
 
 pub few_own : (p : Pooled) → Few p.retries p → FewFailed p
@@ -148,7 +147,7 @@ settle_tries o address p q a b (Shut i e full f c) = (ap (λ (x : Pooled). x.sta
 pub flight_tries : (result : Result Polled PoolFault) (f : Flight) (p q : Pooled) (a b : WireState) → FlightTo result f p q a b → FlightTries result f p q
 flight_tries (Ok polls.Pending) f p q a b t =
     let g : Flight = record f { exchange = t.0.now } in
-    record { started = ap (λ (x : Pooled). x.started) t.1; count = ap tries t.1 ∙ omega (arith, tries-append (p.polled ++ g ∷ []) p.due, tries-append p.polled (g ∷ []), tries-append p.polled p.due) }
+    record { started = ap (λ (x : Pooled). x.started) t.1; count = ap tries t.1 ∙ omega (arith, tries_append (p.polled ++ g ∷ []) p.due, tries_append p.polled (g ∷ []), tries_append p.polled p.due) }
 flight_tries (Ok (polls.Came ticket address answer)) f p q a b t =
     let s = settle_tries (left_link t.1.now) t.1.now.address p q t.0 b t.3 in
     record { started = s.0; count = omega (arith, s.1) }
@@ -226,7 +225,7 @@ next_tries result p q a b n =
     let r : Pooled = record p { due = n.rest } in
     let t = flight_tries result n.f r q a b n.to in
     let all : tries p ≡ n.f.failed + 1 + tries r =
-    omega (arith, tries-append p.polled p.due, tries-append p.polled n.rest, ap tries_flying n.is_next) in
+    omega (arith, tries_append p.polled p.due, tries_append p.polled n.rest, ap tries_flying n.is_next) in
     record {
       over = if is_end result then n.f.failed + 1 else 0;
       balance = next_balance (is_end result) n.f.failed p.started q.started (tries p) (tries r) (tries q) all t.started t.count;

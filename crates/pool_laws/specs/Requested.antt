@@ -36,8 +36,8 @@ pub record IsAnswered (limit : ℕ) (x : Exchanged) : Type 0 where
   pub keeps : Bool
   pub whole : reply_of x.received false limit ≡ Whole body (length x.received) keeps
 
-abbrev pub addresses_of : List Exchanged → List Address
-addresses_of all = map (λ x. x.address) all
+abbrev pub addresses_exchanged : List Exchanged → List Address
+addresses_exchanged all = map (λ x. x.address) all
 
 abbrev pub replies_of : List Exchanged → List ℕ
 replies_of all = flat_map (λ x. x.received) all
@@ -65,10 +65,10 @@ last_answered (Replied address) = address ∷ []
 
 -- the addresses for which whole requests were sent, and those of which the whole reply was received
 abbrev pub whole_requests : LinkRequests → List Address
-whole_requests r = addresses_of r.answered ++ last_whole r.last
+whole_requests r = addresses_exchanged r.answered ++ last_whole r.last
 
 abbrev pub whole_answers : LinkRequests → List Address
-whole_answers r = addresses_of r.answered ++ last_answered r.last
+whole_answers r = addresses_exchanged r.answered ++ last_answered r.last
 
 -- nothing, or a proper front of the request for an address
 pub data IsProperPart (part : List ℕ) : Type 0 where
@@ -95,7 +95,7 @@ pub record TellsRequests (limit : ℕ) (link : Link) (r : LinkRequests) : Type 0
   pub sent : List ℕ
   pub received : List ℕ
   pub last : IsLast limit link r.last sent received
-  pub sent_is : Holds link.sent (requests_for (addresses_of r.answered) ++ sent)
+  pub sent_is : Holds link.sent (requests_for (addresses_exchanged r.answered) ++ sent)
   pub received_is : Holds link.received (replies_of r.answered ++ received)
 
 -- ---- how often
@@ -149,7 +149,7 @@ pub record OwnRequests (limit : ℕ) (since : WireState) (requests : ℕ → Lin
   pub are_answered : AllByRecursion (IsAnswered limit) answered
   pub is_address : IsWebAddress e.address
   pub is_limit : e.limit ≡ limit
-  pub stands : Stands (requests_for (addresses_of answered)) (replies_of answered) e wire
+  pub stands : Stands (requests_for (addresses_exchanged answered)) (replies_of answered) e wire
   pub front : IsFront e.sent (request_for e.address)
   pub on : IsOn since requests answered (if is_sent e then Unanswered e.address else NoneWhole) e.link
 
