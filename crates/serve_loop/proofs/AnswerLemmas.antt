@@ -2,10 +2,11 @@
 use Rattle.std.proofs.Common.{ℕ, ◌≡◌, ◌+◌, ◌<◌, ◌≤◌, ◌⊎◌, inl, inr, ◌++◌, List, [], ◌∷◌, Option, Some, Bool, true, false, refl, sym, ◌∙◌, ap, subst, arith, append-nil}
 use Rattle.std.specs.Prelude.{Result, Ok, Err, OnOk, is_ok, ⊤}
 use Rattle.std.specs.List.{AllByRecursion}
+use Rattle.list_laws.proofs.Each.{all_so}
 use Rattle.tpf_base.specs.Marks.{Mark, version_at}
 use Rattle.tpf_base.specs.Causes.{Rose}
 use Rattle.tpf_base.specs.Links.{WireState}
-use Rattle.tpf_base.specs.Calls.{OnlyOn}
+use Rattle.tpf_base.proofs.SendingLemmas.{only_same}
 use Rattle.connections.specs.Versions.{Serving, MOST_VERSIONS, SupplyState}
 use Rattle.connections.specs.Kinds.{Kind, Grows, Reloads, Fills, mark_of, numbers_of}
 use Rattle.connections.specs.declared.reloaded.Reloaded.{Reloaded}
@@ -14,16 +15,13 @@ use Rattle.serve_loop.specs.declared.live.Live.{Live}
 use Rattle.serve_loop.specs.Traffic.{Talk, Given, Traffic, Moment, took, with_given, updated, moment}
 use Rattle.serve_loop.specs.Relates.{IsTalk, IsExcused, IsNumber, IsRising, Relates}
 use Rattle.serve_loop.specs.Steps.{Supplies, Keeps, Prepares, GoesOn, GoesOnAt}
-use Rattle.serve_loop.proofs.TalkLemmas.{plain, on_plain, all_as, goes_nowhere, up_since}
+use Rattle.serve_loop.proofs.TalkLemmas.{plain, on_plain, goes_nowhere, up_since}
 use Rattle.serve_loop.proofs.SentenceLemmas.{some_same}
 use Rattle.serve_loop.proofs.RelatesLemmas.{here, stays_live}
 use Rattle.serve_loop.proofs.StepLemmas.{goes_on}
 use Rattle.serve_loop.proofs.ReloadLemmas.{talk_answered, rising_last}
 use Rattle.serve_loop.proofs.PrepareLemmas.{relates_took, relates_none}
 use Rattle.serve_loop.proofs.EndsLemmas.{ends_none}
-
-only_same : (k : ℕ) (a : WireState) → OnlyOn k a a
-only_same k a = record { others = λ j h. refl; later = omega arith; given = refl; provoked = refl; dials = refl; waits = refl; door = refl; nature = refl }
 
 excused_now : (since faults faults' version : ℕ) → since ≤ faults → Rose faults faults' ⊎ (version ≡ MOST_VERSIONS) → Rose since faults' ⊎ (version ≡ MOST_VERSIONS)
 excused_now since faults faults' version h e = elim e [ inl rose ↦ inl (omega (arith, h, rose)) | inr most ↦ inr most ]
@@ -42,7 +40,7 @@ module _ {C : Type 0} where
   goes_lower low high x y h g = record {
     later = g.later;
     marks = g.marks;
-    not_below = all_as _ _ (λ (m : Mark) (p : high ≤ version_at m). omega (arith, h, p)) g.later g.not_below;
+    not_below = all_so _ _ (λ (m : Mark) (p : high ≤ version_at m). omega (arith, h, p)) g.later g.not_below;
     piece = g.piece;
     fed = g.fed;
     part = g.part;
@@ -97,7 +95,7 @@ module _ {C Data Settings : Type 0} where
       let later_is : since.served.version ≤ served'.version = omega (arith, version, count) in
       let below : AllByRecursion (λ n. n < v) (kind.reloads served'.config old.talk.fed old.talk.marks) =
       subst (λ (c : Settings). AllByRecursion (λ n. n < v) (kind.reloads c old.talk.fed old.talk.marks)) (sym config)
-      (all_as _ _ (λ (n : ℕ) (h : IsNumber t.owner l.link since.served.version served.version n). let i = h.within in let e = x.1.1 in omega (arith, i, e)) (kind.reloads served.config old.talk.fed old.talk.marks) b.numbers) in
+      (all_so _ _ (λ (n : ℕ) (h : IsNumber t.owner l.link since.served.version served.version n). let i = h.within in let e = x.1.1 in omega (arith, i, e)) (kind.reloads served.config old.talk.fed old.talk.marks) b.numbers) in
       let answer = on_plain
       (λ (y : Talk C). IsTalk kind since history owner (moment served' supply' w) l.link y × AllByRecursion (λ n. n < v) (kind.reloads served'.config y.fed y.marks))
       (λ (y : Talk C). Answered kind since history owner (moment served' supply' w) l.link l'.connection y)

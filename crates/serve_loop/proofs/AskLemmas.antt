@@ -1,5 +1,7 @@
 -- How often the supply was asked.
 use Rattle.std.proofs.Common.{ℕ, zero, suc, ◌≡◌, ◌+◌, ◌^◌, ◌<◌, ◌≤◌, inl, inr, List, [], ◌∷◌, ◌++◌, length, Option, Some, None, Bool, true, false, refl, sym, ◌∙◌, ap, subst, arith, length-append, add-one, if◌then◌else◌}
+use Rattle.std.proofs.lemmas.Bool.{cases_eq}
+use Rattle.list_laws.proofs.Each.{all_so}
 use Rattle.connections.specs.Kinds.{Kind}
 use Rattle.connections.specs.declared.reloaded.Reloaded.{Reloaded}
 use Rattle.connections.specs.declared.reloaded.Reloaded.TheVariants as outcomes
@@ -11,10 +13,8 @@ use Rattle.serve_loop.specs.declared.live.Part.{Part}
 use Rattle.serve_loop.specs.Traffic.{Moment, took}
 use Rattle.serve_loop.specs.Steps.{Supplies, Welcomes}
 use Rattle.serve_loop.specs.Asks.{AreAnswered, waits_for, waiting, AnswersAt, AnswersBelow, AnswersAll}
-use Rattle.serve_loop.proofs.TalkLemmas.{all_as}
 use Rattle.serve_loop.specs.Parts.{is_in, among, parted}
 use Rattle.serve_loop.proofs.PartLemmas.{among_vacant}
-use Rattle.serve_loop.proofs.RelatesLemmas.{same_or}
 
 module _ {Data Settings : Type 0} where
   supplies_may : (may may' : Data → Type 0) (outcome : Reloaded) (old now : Moment Data Settings) → ((d : Data) → may d → may' d) → Supplies may outcome old now → Supplies may' outcome old now
@@ -22,7 +22,7 @@ module _ {Data Settings : Type 0} where
     added = s.added;
     few = s.few;
     left = s.left;
-    may_be = all_as may may' f (took s.added) s.may_be;
+    may_be = all_so may may' f (took s.added) s.may_be;
     version = s.version;
     none = s.none;
     failed = s.failed;
@@ -119,7 +119,7 @@ module _ {C Data Settings : Type 0} where
   same_waits : (kind : Kind C Data Settings) (part : Part) (at at' : ℕ → Option (Live C)) (accepted : Bool) (len after : ℕ) (a b : WireState) → Welcomes kind at at' accepted len after a b
       → (k : ℕ) → waits_for kind (parted part at' k) ≡ waits_for kind (parted part at k)
   same_waits kind part at at' false len after a b w k = ap (λ (o : Option (Live C)). waits_for kind (among part o)) (w.others k (inr refl))
-  same_waits kind part at at' true len after a b w k = elim (same_or k w.key) [
+  same_waits kind part at at' true len after a b w k = elim (cases_eq k w.key) [
     | inl p ↦ ap (λ (j : ℕ). waits_for kind (among part (at' j))) p ∙ ap (λ (o : Option (Live C)). waits_for kind (among part o)) (w.found refl).1.1
         ∙ none_if_in kind (is_in part a.given) (record { link = a.given; connection = (w.found refl).0 }) (w.found refl).1.0.wants
         ∙ sym (ap (λ (j : ℕ). waits_for kind (among part (at j))) p ∙ ap (λ (o : Option (Live C)). waits_for kind (among part o)) (w.vacant refl))
@@ -133,7 +133,7 @@ module _ {C Data Settings : Type 0} where
   vacant_before : (kind : Kind C Data Settings) (part : Part) (at at' : ℕ → Option (Live C)) (accepted : Bool) (len after : ℕ) (a b : WireState) → Welcomes kind at at' accepted len after a b
       → (k : ℕ) → parted part at' k ≡ None → parted part at k ≡ None
   vacant_before kind part at at' false len after a b w k none = ap (λ (o : Option (Live C)). among part o) (sym (w.others k (inr refl))) ∙ none
-  vacant_before kind part at at' true len after a b w k none = elim (same_or k w.key) [
+  vacant_before kind part at at' true len after a b w k none = elim (cases_eq k w.key) [
     | inl p ↦ among_vacant part (at k) (ap at p ∙ w.vacant refl)
     | inr n ↦ ap (λ (o : Option (Live C)). among part o) (sym (w.others k (inl n))) ∙ none
   ]

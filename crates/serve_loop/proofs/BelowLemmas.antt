@@ -1,5 +1,7 @@
 -- The steps of the keys, one after another.
 use Rattle.std.proofs.Common.{ℕ, ◌≡◌, ◌≢◌, ◌+◌, ◌<◌, ◌≤◌, ◌⊎◌, inl, inr, List, Option, Some, None, true, false, refl, sym, ◌∙◌, ap, subst, arith}
+use Rattle.std.proofs.lemmas.Bool.{cases_eq}
+use Rattle.list_laws.proofs.Tests.{not_both_ways}
 use Rattle.tpf_base.specs.Causes.{Rose}
 use Rattle.tpf_base.specs.Links.{Link, WireState, Way, Sending, Receiving}
 use Rattle.connections.specs.Kinds.{Kind}
@@ -9,7 +11,7 @@ use Rattle.serve_loop.specs.declared.live.Stepped.TheVariants as stepped
 use Rattle.serve_loop.specs.declared.live.Turned.{Turned}
 use Rattle.serve_loop.specs.Calls.{OneWay, MovesOn, StaysOn, StallsOn, ClosesOn, OnlyClosesOn, HasCalled, HasClosed, HasTurned, HasEnded, Moved, Stalled, Closed, CallsOnly, CallsAt, ByNeed, StepsLive, TurnsLive, StepsBelow, StepsAll, turned_with}
 use Rattle.serve_loop.proofs.CallLemmas.{alone_none, alone_then, alone_on}
-use Rattle.serve_loop.proofs.RelatesLemmas.{same_or, is_not, none_some}
+use Rattle.serve_loop.proofs.RelatesLemmas.{none_some}
 use Rattle.serve_loop.proofs.SentenceLemmas.{some_same}
 
 pub last_or : (key n : ℕ) → key < n + 1 → (key ≡ n) ⊎ (key < n)
@@ -82,9 +84,9 @@ module _ {C Data Settings : Type 0} where
   -- the step of the link's connection is what the turn did on it
   live_step : (kind : Kind C Data Settings) (v : C) (x : Turned) (answer : Stepped) (k : ℕ) (a b c : WireState) → b.links k ≡ a.links k → StepsLive kind v answer k b c → TurnsLive kind v (turned_with x (Some answer)) k a c
   live_step kind v x stepped.Moved k a b c e n = need_as kind v (HasCalled stepped.Moved k b c) (HasTurned (turned_with x (Some stepped.Moved)) k a c) (HasClosed stepped.Moved k b c) (HasEnded (turned_with x (Some stepped.Moved)) k a c)
-      (λ way p. Moved refl (moves_on way k a b c c e refl p.0)) (λ p. absurd (is_not false p.0 refl)) n
+      (λ way p. Moved refl (moves_on way k a b c c e refl p.0)) (λ p. absurd (not_both_ways false p.0 refl)) n
   live_step kind v x stepped.Still k a b c e n = need_as kind v (HasCalled stepped.Still k b c) (HasTurned (turned_with x (Some stepped.Still)) k a c) (HasClosed stepped.Still k b c) (HasEnded (turned_with x (Some stepped.Still)) k a c)
-      (λ way p. Stalled (stalls_on way k a b c c e refl p)) (λ p. absurd (is_not false p.0 refl)) n
+      (λ way p. Stalled (stalls_on way k a b c c e refl p)) (λ p. absurd (not_both_ways false p.0 refl)) n
   live_step kind v x stepped.Ended k a b c e n = need_as kind v (HasCalled stepped.Ended k b c) (HasTurned (turned_with x (Some stepped.Ended)) k a c) (HasClosed stepped.Ended k b c) (HasEnded (turned_with x (Some stepped.Ended)) k a c)
       (λ way p. Closed (omega arith) (closes_on way k a b c c e refl p)) (λ p. (omega arith, only_closes_on k a b c c e refl p.1)) n
   live_step kind v x stepped.Starved k a b c e n = need_as kind v (HasCalled stepped.Starved k b c) (HasTurned (turned_with x (Some stepped.Starved)) k a c) (HasClosed stepped.Starved k b c) (HasEnded (turned_with x (Some stepped.Starved)) k a c)
@@ -98,7 +100,7 @@ module _ {C Data Settings : Type 0} where
     moved = λ e. absurd cc;
     ended = λ e. absurd (omega (arith, e));
     still = λ e k is_open. record { sent = refl; received = refl };
-    idle = λ s. elim s [ inl e ↦ absurd (is_not false e refl) | inr z ↦ z ];
+    idle = λ s. elim s [ inl e ↦ absurd (not_both_ways false e refl) | inr z ↦ z ];
     given = refl;
     waits = refl;
     door = refl;
@@ -161,7 +163,7 @@ module _ {C Data Settings : Type 0} where
           )
           | inr q ↦ (n, m, omega arith, found, q)
         ];
-        still = λ e k is_open. elim (same_or k m.link) [
+        still = λ e k is_open. elim (cases_eq k m.link) [
           | inl p ↦ subst (λ (j : ℕ). StaysOn j a c) (sym p) ((still e).1 (subst (λ (j : ℕ). (c.links j).is_open ≡ true) p is_open))
           | inr ne ↦ let o = calls.only.others k ne in stays_on k a a b c refl o (h.still (still e).0 k (ap (λ (l : Link). l.is_open) (sym o) ∙ is_open))
         ];
@@ -197,11 +199,11 @@ module _ {C Data Settings : Type 0} where
   below_step kind x n at a b c m stepped.Ended alone h found called calls =
       let same = fresh_link kind x n at a b m alone h found in
       below_by kind x (turned_with x (Some stepped.Ended)) n at a b c m alone h found calls (λ e. e) (omega arith) (live_step kind m.connection x stepped.Ended m.link a b c same called)
-      (λ e. inl e) (λ e. inr called.called.1.closed) (λ e. (e, λ is_open. absurd (is_not (c.links m.link).is_open is_open called.called.1.closed)))
+      (λ e. inl e) (λ e. inr called.called.1.closed) (λ e. (e, λ is_open. absurd (not_both_ways (c.links m.link).is_open is_open called.called.1.closed)))
   below_step kind x n at a b c m stepped.Starved alone h found called calls =
       let same = fresh_link kind x n at a b m alone h found in
       below_by kind x (turned_with x (Some stepped.Starved)) n at a b c m alone h found calls (λ e. e) (omega arith) (live_step kind m.connection x stepped.Starved m.link a b c same called)
-      (λ e. inl e) (λ e. inr called.called.1.closed) (λ e. (e, λ is_open. absurd (is_not (c.links m.link).is_open is_open called.called.1.closed)))
+      (λ e. inl e) (λ e. inr called.called.1.closed) (λ e. (e, λ is_open. absurd (not_both_ways (c.links m.link).is_open is_open called.called.1.closed)))
 
   -- whichever the slot
   below_at : (kind : Kind C Data Settings) (x : Turned) (n : ℕ) (at : ℕ → Option (Live C)) (a b c : WireState) (slot : Option (Live C)) (result : Option Stepped)

@@ -2,14 +2,15 @@
 use Rattle.std.proofs.Common.{ℕ, ◌≡◌, ◌≤◌, inl, inr, ◌++◌, List, Option, Some, None, Bool, true, false, refl, sym, ◌∙◌, ap, subst, arith, append_assoc}
 use Rattle.std.specs.Prelude.{Result, Ok, Err, IsErr, is_ok, ⊤}
 use Rattle.std.specs.List.{AllByRecursion}
+use Rattle.std.proofs.lemmas.Bool.{cases_eq}
+use Rattle.list_laws.proofs.Each.{all_append, all_so}
 use Rattle.tpf_base.specs.Marks.{Mark, version_at}
 use Rattle.connections.specs.Kinds.{Kind}
 use Rattle.serve_loop.specs.declared.live.Live.{Live}
 use Rattle.serve_loop.specs.Traffic.{Talk, Traffic, Moment, updated}
 use Rattle.serve_loop.specs.Relates.{Relates}
 use Rattle.serve_loop.specs.Steps.{GoesOn, GoesOnAt, Keeps, Prepares}
-use Rattle.serve_loop.proofs.TalkLemmas.{all_append, all_as}
-use Rattle.serve_loop.proofs.RelatesLemmas.{here, there, same_or}
+use Rattle.serve_loop.proofs.RelatesLemmas.{here, there}
 use Rattle.serve_loop.proofs.EndsLemmas.{ends_then}
 
 pub err_false : {E : Type 0} (r : Result ⊤ E) → IsErr r → false ≡ is_ok r
@@ -21,7 +22,7 @@ module _ {C : Type 0} where
   goes_then low high x y z h p q = record {
     later = p.later ++ q.later;
     marks = q.marks ∙ ap (λ (m : List Mark). m ++ q.later) p.marks ∙ append_assoc x.marks p.later q.later;
-    not_below = all_append _ p.later q.later p.not_below (all_as _ _ (λ (m : Mark) (l : high ≤ version_at m). omega (arith, h, l)) q.later q.not_below);
+    not_below = all_append _ p.later q.later p.not_below (all_so _ _ (λ (m : Mark) (l : high ≤ version_at m). omega (arith, h, l)) q.later q.not_below);
     piece = p.piece ++ q.piece;
     fed = q.fed ∙ ap (λ (m : List ℕ). m ++ q.piece) p.fed ∙ append_assoc (x.fed ++ x.unfed) p.piece q.piece;
     part = p.part ++ q.part;
@@ -30,16 +31,16 @@ module _ {C : Type 0} where
 
   pub goes_on_then : (low high : ℕ) (x y z : Option (Talk C)) → low ≤ high → GoesOnAt low x y → GoesOnAt high y z → GoesOnAt low x z
   goes_on_then low high None None None h p q = tt
-  goes_on_then low high None None (Some z) h p q = all_as _ _ (λ (m : Mark) (l : high ≤ version_at m). omega (arith, h, l)) z.marks q
+  goes_on_then low high None None (Some z) h p q = all_so _ _ (λ (m : Mark) (l : high ≤ version_at m). omega (arith, h, l)) z.marks q
   goes_on_then low high None (Some y) None h p q = absurd q
   goes_on_then low high None (Some y) (Some z) h p q = subst (λ (ms : List Mark). AllByRecursion (λ mark. low ≤ version_at mark) ms) (sym q.marks)
-      (all_append _ y.marks q.later p (all_as _ _ (λ (m : Mark) (l : high ≤ version_at m). omega (arith, h, l)) q.later q.not_below))
+      (all_append _ y.marks q.later p (all_so _ _ (λ (m : Mark) (l : high ≤ version_at m). omega (arith, h, l)) q.later q.not_below))
   goes_on_then low high (Some x) None z h p q = absurd p
   goes_on_then low high (Some x) (Some y) None h p q = absurd q
   goes_on_then low high (Some x) (Some y) (Some z) h p q = goes_then low high x y z h p q
 
   pub updated_twice : (at : ℕ → Option (Live C)) (key : ℕ) (a b : Option (Live C)) (k : ℕ) → updated at key b k ≡ updated (updated at key a) key b k
-  updated_twice at key a b k = elim (same_or k key) [
+  updated_twice at key a b k = elim (cases_eq k key) [
     | inl e ↦ here at key b k e ∙ sym (here (updated at key a) key b k e)
     | inr n ↦ there at key b k n ∙ sym (there at key a k n) ∙ sym (there (updated at key a) key b k n)
   ]

@@ -1,7 +1,11 @@
 -- The links of all live connections are closed, one after another, and what the traffic is then.
 use Rattle.std.proofs.Common.{ℕ, ◌≡◌, ◌≢◌, ◌+◌, ◌<◌, ◌≤◌, inl, inr, List, length, Option, Some, None, true, false, refl, sym, ◌∙◌, ap, subst, arith}
+use Rattle.std.proofs.lemmas.Bool.{cases_eq}
+use Rattle.list_laws.proofs.Each.{all_so}
+use Rattle.list_laws.proofs.Tests.{not_both_ways}
 use Rattle.tpf_base.specs.Causes.{RoseBy}
 use Rattle.tpf_base.specs.Links.{Link, WireState}
+use Rattle.tpf_base.proofs.SendingLemmas.{holds_same}
 use Rattle.connections.specs.Versions.{Serving, SupplyState}
 use Rattle.connections.specs.Kinds.{Kind}
 use Rattle.serve_loop.specs.declared.live.Live.{Live}
@@ -11,8 +15,8 @@ use Rattle.serve_loop.specs.Relates.{IsOrdered, IsGone, Relates}
 use Rattle.serve_loop.specs.Sentence.{AllClosed}
 use Rattle.serve_loop.specs.Service.{LeavesLinks}
 use Rattle.serve_loop.proofs.CallLemmas.{alone_none, alone_then, alone_on}
-use Rattle.serve_loop.proofs.TalkLemmas.{same_talk, all_as, holds_same}
-use Rattle.serve_loop.proofs.RelatesLemmas.{same_or, is_not, none_some, versions_on, older_as}
+use Rattle.serve_loop.proofs.TalkLemmas.{same_talk}
+use Rattle.serve_loop.proofs.RelatesLemmas.{none_some, versions_on, older_as}
 use Rattle.serve_loop.proofs.SentenceLemmas.{some_same}
 use Rattle.serve_loop.proofs.BelowLemmas.{last_or, below_or}
 use Rattle.serve_loop.proofs.PreparedLemmas.{true_or}
@@ -63,7 +67,7 @@ module _ {C : Type 0} where
       | inl p ↦ subst (λ (k : ℕ). (c.links k).is_open ≡ false) (ap (λ (v : Live C). v.link) (some_same (at n) m l found (ap at (sym p) ∙ e))) d.is_open
       | inr q ↦ ap (λ (x : Link). x.is_open) (d.only.others l.link (λ s. let same = alone key n l m e found s in absurd (omega (arith, q, same)))) ∙ h.closed key l q e
     ];
-    told = λ k. elim (same_or k m.link) [
+    told = λ k. elim (cases_eq k m.link) [
       | inl p ↦ subst (λ (j : ℕ). TellsSame (a.links j) (c.links j)) (sym p) (told_then (a.links m.link) (b.links m.link) (c.links m.link) (h.told m.link) (record { sent = d.sent; received = d.received; ended = d.ended }))
       | inr ne ↦ told_then (a.links k) (b.links k) (c.links k) (h.told k) (told_same (b.links k) (c.links k) (d.only.others k ne))
     ];
@@ -123,7 +127,7 @@ module _ {C Data Settings : Type 0} where
   not_live : (kind : Kind C Data Settings) (may : Data → Type 0) (first : List Data) (since : Moment Data Settings) (t : Traffic C Data) (at : ℕ → Option (Live C)) (len : ℕ) (served : Serving Data Settings) (supply : SupplyState Data) (a b : WireState)
       → Relates kind may first since t at len (moment served supply a) → LeavesAll at a b → (k : ℕ) → (a.links k).is_open ≡ false → b.links k ≡ a.links k
   not_live kind may first since t at len served supply a b r w k closed =
-      w.others k (λ o. is_not (a.links k).is_open (ap (λ (n : ℕ). (a.links n).is_open) (sym o.link) ∙ (r.lives o.key o.live o.found).is_open) closed)
+      w.others k (λ o. not_both_ways (a.links k).is_open (ap (λ (n : ℕ). (a.links n).is_open) (sym o.link) ∙ (r.lives o.key o.live o.found).is_open) closed)
 
   ordered_left : (kind : Kind C Data Settings) (since : Moment Data Settings) (talks : ℕ → Option (Talk C)) (a b : WireState) → b.given ≡ a.given → ((k : ℕ) → (a.links k).is_open ≡ false → b.links k ≡ a.links k)
       → (k : ℕ) → IsOrdered kind since talks a k → IsOrdered kind since talks b k
@@ -166,15 +170,15 @@ module _ {C Data Settings : Type 0} where
         unseen = λ k above. r.unseen k (subst (λ (n : ℕ). n ≤ k) wg above);
         owned = λ k later given is_open. elim (true_or (a.links k).is_open) [
           | inl o ↦ let x = r.owned k later (subst (λ (n : ℕ). k < n) wg given) o in
-              absurd (is_not (b.links k).is_open is_open (ap (λ (n : ℕ). (b.links n).is_open) (sym x.link) ∙ w.closed x.key x.live x.found))
-          | inr c ↦ absurd (is_not (b.links k).is_open is_open (ap (λ (x : Link). x.is_open) (same k c) ∙ c))
+              absurd (not_both_ways (b.links k).is_open is_open (ap (λ (n : ℕ). (b.links n).is_open) (sym x.link) ∙ w.closed x.key x.live x.found))
+          | inr c ↦ absurd (not_both_ways (b.links k).is_open is_open (ap (λ (x : Link). x.is_open) (same k c) ∙ c))
         ];
         older = λ k below. older_as (since.wire.links k) (a.links k) (b.links k) (w.others k (λ o. let x = (r.lives o.key o.live o.found).later in let s = o.link in absurd (omega (arith, below, x, s)))) (r.older k below);
         count = omega (arith, wg, rc);
         ends = record {
-          ordered = all_as _ _ (λ (k : ℕ). ordered_left kind since t.talks a b wg same k) t.ordered e.ordered;
-          broken = all_as _ _ (λ (k : ℕ). gone_left since t.talks a b wg same k) t.broken e.broken;
-          starved = all_as _ _ (λ (k : ℕ). gone_left since t.talks a b wg same k) t.starved e.starved;
+          ordered = all_so _ _ (λ (k : ℕ). ordered_left kind since t.talks a b wg same k) t.ordered e.ordered;
+          broken = all_so _ _ (λ (k : ℕ). gone_left since t.talks a b wg same k) t.broken e.broken;
+          starved = all_so _ _ (λ (k : ℕ). gone_left since t.talks a b wg same k) t.starved e.starved;
           ordered_once = e.ordered_once;
           broken_once = e.broken_once;
           starved_once = e.starved_once;

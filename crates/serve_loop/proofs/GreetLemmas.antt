@@ -1,6 +1,7 @@
 -- Links that wait at the door get connections, one after another; and what that leaves of the traffic.
 use Rattle.std.proofs.Common.{ℕ, zero, suc, ◌≡◌, ◌+◌, ◌≤◌, inl, inr, List, [], ◌∷◌, Option, Bool, true, false, refl, sym, ◌∙◌, ap, subst, arith}
 use Rattle.std.specs.Prelude.{Result, Ok, Err, OnOk, IfErr, ⊤}
+use Rattle.std.proofs.lemmas.Bool.{cases_eq}
 use Rattle.tpf_base.specs.Links.{Link, WireState}
 use Rattle.tpf_base.specs.Calls.{GivesNone}
 use Rattle.tpf_base.specs.Sending.{Holds}
@@ -20,7 +21,6 @@ use Rattle.serve_loop.specs.Service.{ended_in, IsNew, GivesLinks, GreetsLinks, C
 use Rattle.serve_loop.specs.Greets.{Greeted, GreetsAll, FailsGreets, FollowsTurn, IsGreeted, IsRested, FailsAfter, Greeting, Resting}
 use Rattle.serve_loop.proofs.CallLemmas.{alone_none, alone_then}
 use Rattle.serve_loop.proofs.BelowLemmas.{nothing, below_or}
-use Rattle.serve_loop.proofs.RelatesLemmas.{same_or}
 use Rattle.serve_loop.proofs.EndsLemmas.{ends_same}
 use Rattle.serve_loop.proofs.StepLemmas.{goes_same}
 use Rattle.serve_loop.proofs.TurnLemmas.{turns_none}
@@ -114,7 +114,7 @@ module _ {C Data Settings : Type 0} where
       let gm = g.more in
       record {
         given = omega (arith, gm);
-        fresh = λ k later given. elim (same_or k a.given) [
+        fresh = λ k later given. elim (cases_eq k a.given) [
           | inl p ↦ subst (λ (j : ℕ). IsNew j b) (sym p) (record {
             is_open = g.is_open;
             sent = told_nothing (b.links a.given).sent a.nature.tells g.sent;

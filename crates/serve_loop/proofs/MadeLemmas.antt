@@ -1,6 +1,7 @@
 -- A connection that was made ready: what is pending then.
 use Rattle.std.proofs.Common.{ℕ, ◌≡◌, ◌<◌, ◌≤◌, inl, inr, ◌++◌, List, [], length, Bool, true, false, refl, sym, ◌∙◌, ap, subst, arith, length-append}
 use Rattle.std.specs.Prelude.{Result, Ok, Err, OnOk, ⊤}
+use Rattle.list_laws.proofs.Tests.{not_both_ways}
 use Rattle.tpf_base.specs.Links.{WireState}
 use Rattle.connections.specs.Versions.{Serving, SupplyState}
 use Rattle.connections.specs.Kinds.{Kind, Fills}
@@ -10,7 +11,6 @@ use Rattle.serve_loop.specs.declared.live.TheConstants.{MOST_SENT}
 use Rattle.serve_loop.specs.Steps.{Makes, IsFull, IsFilled, Prepares, IsReady}
 use Rattle.serve_loop.specs.Traffic.{moment}
 use Rattle.serve_loop.proofs.PreparedLemmas.{nothing_pending}
-use Rattle.serve_loop.proofs.RelatesLemmas.{is_not}
 use Rattle.serve_loop.proofs.AnswerLemmas.{prepares_filled, kept}
 
 pub ok_map : {E : Type 0} (r : Result ⊤ E) (P Q : Type 0) → (P → Q) → OnOk r P → OnOk r Q
@@ -34,7 +34,7 @@ module _ {C Data Settings : Type 0} where
   fills_some : (kind : Kind C Data Settings) (server : Serving Data Settings) (c m : C) → kind.wants c ≡ false → Fills kind server c m → Speaks kind c → 0 < length (kind.pending m)
   fills_some kind server c m wants f (IsPending some) = fills_pending kind server c m f some
   fills_some kind server c m wants f (IsOwing owes) = f.some owes
-  fills_some kind server c m wants f (IsWaiting waits) = absurd (is_not (kind.wants c) waits wants)
+  fills_some kind server c m wants f (IsWaiting waits) = absurd (not_both_ways (kind.wants c) waits wants)
 
   -- where something was owed, bytes are pending
   made_some : (kind : Kind C Data Settings) (server : Serving Data Settings) (c m : C) → kind.owes c ≡ true → Makes kind server c m → 0 < length (kind.pending m)
@@ -65,8 +65,8 @@ module _ {C Data Settings : Type 0} where
   pub prepared_answered : (kind : Kind C Data Settings) (server : Serving Data Settings) (c m n : C) → kind.wants c ≡ true → kind.owes m ≡ true → Makes kind server m n → IsPrepared kind c n
   prepared_answered kind server c m n wants owes made = record {
     speaks = λ s. made_some kind server m n owes made;
-    quiet = λ q. absurd (is_not (kind.wants c) wants q.wants);
-    closing = λ q. absurd (is_not (kind.wants c) wants q.wants);
+    quiet = λ q. absurd (not_both_ways (kind.wants c) wants q.wants);
+    closing = λ q. absurd (not_both_ways (kind.wants c) wants q.wants);
   }
 
   pub ready_made : (kind : Kind C Data Settings) (server : Serving Data Settings) (c m : C) → kind.wants c ≡ false → Makes kind server c m → IsReady kind m

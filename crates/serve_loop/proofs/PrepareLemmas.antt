@@ -1,6 +1,7 @@
 -- What the supply gave is taken into the traffic.
 use Rattle.std.proofs.Common.{ℕ, ◌≡◌, ◌+◌, ◌≤◌, ◌++◌, List, [], ◌∷◌, Option, refl}
 use Rattle.std.specs.List.{AllByRecursion}
+use Rattle.list_laws.proofs.Each.{all_so}
 use Rattle.tpf_base.specs.Marks.{Mark}
 use Rattle.tpf_base.specs.Links.{WireState}
 use Rattle.connections.specs.Versions.{Serving, SupplyState}
@@ -8,7 +9,6 @@ use Rattle.connections.specs.Kinds.{Kind, Grows}
 use Rattle.serve_loop.specs.declared.live.Live.{Live}
 use Rattle.serve_loop.specs.Traffic.{Given, Traffic, Moment, took, with_given, updated, moment}
 use Rattle.serve_loop.specs.Relates.{Relates}
-use Rattle.serve_loop.proofs.TalkLemmas.{all_as}
 use Rattle.serve_loop.proofs.ReloadLemmas.{talk_took, versions_took, versions_none, excused_later}
 
 module _ {C Data Settings : Type 0} where
@@ -60,7 +60,7 @@ module _ {C Data Settings : Type 0} where
         within = i.within;
         sent_is = i.sent_is;
         received_is = i.received_is;
-        excused = all_as _ _ (λ (m : Mark). excused_later since.supply.faults supply.faults supply'.faults later m) h.talk.marks i.excused;
+        excused = all_so _ _ (λ (m : Mark). excused_later since.supply.faults supply.faults supply'.faults later m) h.talk.marks i.excused;
         level = i.level;
         numbers = i.numbers;
         rising = i.rising;

@@ -2,6 +2,7 @@
 use Rattle.std.proofs.Common.{ℕ, ◌≡◌, ◌+◌, ◌<◌, ◌≤◌, ◌==◌, ◌⊎◌, inl, inr, List, [], ◌∷◌, length, Option, Some, Bool, true, false, refl, sym, ◌∙◌, ap, subst, arith}
 use Rattle.std.proofs.lemmas.Bool.{eqb-true}
 use Rattle.std.specs.Prelude.{Result, Ok, Err, is_ok, is_err, ⊤}
+use Rattle.list_laws.proofs.Tests.{not_both_ways}
 use Rattle.tpf_base.specs.Links.{WireState, Way, Sending, Receiving}
 use Rattle.tpf_base.specs.Calls.{OnlyOn, Closes}
 use Rattle.connections.specs.Versions.{Serving, SupplyState}
@@ -15,7 +16,7 @@ use Rattle.serve_loop.specs.Calls.{HasCalled, StepsLive, Speaks, IsPending, IsOw
 use Rattle.serve_loop.specs.Steps.{StepsLink, StepsOn, StepsTo, Keeps, Prepares, TalksTo, IsReady}
 use Rattle.serve_loop.proofs.CallLemmas.{only_closes, closes_by}
 use Rattle.serve_loop.proofs.TalkLemmas.{on_plain, still_talk, closes_as}
-use Rattle.serve_loop.proofs.RelatesLemmas.{here, is_not, none_some}
+use Rattle.serve_loop.proofs.RelatesLemmas.{here, none_some}
 use Rattle.serve_loop.proofs.StepLemmas.{steps_to}
 use Rattle.serve_loop.proofs.EndsLemmas.{ends_then, ends_as}
 use Rattle.serve_loop.proofs.ChainLemmas.{relates_same, goes_on_then, updated_twice}
@@ -147,7 +148,7 @@ module _ {C Data Settings : Type 0} where
       → Closes k a b → StepsLive kind c stepped.Ended k a b
   need_close kind c m k a b p none closing d = let e = only_closes k a b d in record {
     speaks = λ s. absurd (nothing_pending (kind.pending m) none (p.speaks s));
-    listens = λ q n. absurd (is_not (kind.closing m) closing (p.closing q ∙ n));
+    listens = λ q n. absurd (not_both_ways (kind.closing m) closing (p.closing q ∙ n));
     closes = λ q y. (refl, e);
     called = (Receiving, closes_by Receiving k a b e);
   }
@@ -158,6 +159,6 @@ module _ {C Data Settings : Type 0} where
   need_receive kind c m answer k j a b e p none closing called = let at_link = subst (λ (n : ℕ). HasCalled answer n a b Receiving) e called in record {
     speaks = λ s. absurd (nothing_pending (kind.pending m) none (p.speaks s));
     listens = λ q n. at_link;
-    closes = λ q y. absurd (is_not (kind.closing m) (p.closing q ∙ y) closing);
+    closes = λ q y. absurd (not_both_ways (kind.closing m) (p.closing q ∙ y) closing);
     called = (Receiving, at_link);
   }

@@ -1,9 +1,12 @@
 -- A step on one link leaves what the traffic says of all others.
 use Rattle.std.proofs.Common.{ℕ, ◌≡◌, ◌≢◌, ◌+◌, ◌<◌, ◌≤◌, ◌==◌, ◌⊎◌, inl, inr, List, [], ◌∷◌, length, Option, Some, None, Bool, true, false, refl, sym, ◌∙◌, ap, subst, arith, if◌then◌else◌, eq-eqb}
-use Rattle.std.proofs.lemmas.Bool.{eqb-true}
+use Rattle.std.proofs.lemmas.Bool.{eqb-true, cases_eq, cond-true}
+use Rattle.list_laws.proofs.Each.{all_so}
+use Rattle.list_laws.proofs.Tests.{not_both_ways}
 use Rattle.tpf_base.specs.Causes.{Rose}
 use Rattle.tpf_base.specs.Links.{Link, WireState}
 use Rattle.tpf_base.specs.Calls.{OnlyOn}
+use Rattle.tpf_base.proofs.SendingLemmas.{holds_same}
 use Rattle.connections.specs.Versions.{Serving, SupplyState}
 use Rattle.connections.specs.Kinds.{Kind}
 use Rattle.serve_loop.specs.declared.live.Live.{Live}
@@ -11,28 +14,18 @@ use Rattle.serve_loop.specs.Traffic.{Talk, Given, Traffic, Moment, ended, update
 use Rattle.serve_loop.specs.Calls.{IsOwned, IsUntouched}
 use Rattle.serve_loop.specs.Relates.{IsTalk, IsLive, IsOrdered, IsGone, Talks, Ends, Versions, Relates}
 use Rattle.serve_loop.specs.Steps.{EndsInOrder}
-use Rattle.serve_loop.proofs.TalkLemmas.{same_talk, all_as, holds_same}
+use Rattle.serve_loop.proofs.TalkLemmas.{same_talk}
 use Rattle.serve_loop.proofs.SentenceLemmas.{some_same}
-
-if_true : {T : Type 0} (b : Bool) (x y : T) → b ≡ true → (if b then x else y) ≡ x
-if_true true x y e = refl
-if_true false x y e = absurd cc
 
 if_else : {T : Type 0} (b : Bool) (x y : T) → (b ≡ true → ⊥) → (if b then x else y) ≡ y
 if_else true x y h = absurd (h refl)
 if_else false x y h = refl
 
 pub here : {T : Type 0} (f : ℕ → T) (p : ℕ) (v : T) (k : ℕ) → k ≡ p → updated f p v k ≡ v
-here f p v k e = if_true (k == p) v (f k) (eq-eqb k p e)
+here f p v k e = cond-true (k == p) v (f k) (eq-eqb k p e)
 
 pub there : {T : Type 0} (f : ℕ → T) (p : ℕ) (v : T) (k : ℕ) → k ≢ p → updated f p v k ≡ f k
 there f p v k n = if_else (k == p) v (f k) (λ t. n (eqb-true k p t))
-
-pub same_or : (k p : ℕ) → (k ≡ p) ⊎ (k ≢ p)
-same_or k p = grind arith
-
-pub is_not : (x : Bool) → x ≡ true → x ≡ false → ⊥
-is_not x t f = cc
 
 pub versions_on : {Data Settings : Type 0} (may : Data → Type 0) (first : List Data) (since : Moment Data Settings) (history : List Data) (given : List (Given Data)) (served : Serving Data Settings) (supply : SupplyState Data) (a b : WireState)
     → Versions may first since history given (moment served supply a) → Versions may first since history given (moment served supply b)
@@ -48,7 +41,7 @@ versions_on may first since history given served supply a b v = record {
 
 pub gone_on : (since a b : WireState) (k : ℕ) → (a.links k).is_open ≡ true → OnlyOn k a b → (j : ℕ) → IsGone since a j → IsGone since b j
 gone_on since a b k is_open only j h =
-    let n : j ≢ k = λ e. is_not (a.links j).is_open (ap (λ (x : ℕ). (a.links x).is_open) e ∙ is_open) h.closed in
+    let n : j ≢ k = λ e. not_both_ways (a.links j).is_open (ap (λ (x : ℕ). (a.links x).is_open) e ∙ is_open) h.closed in
     record { later = h.later; given = subst (λ (x : ℕ). j < x) (sym only.given) h.given; closed = ap (λ (l : Link). l.is_open) (only.others j n) ∙ h.closed }
 
 pub none_some : {X : Type 0} (x : X) → None ≡ Some x → ⊥
@@ -59,12 +52,12 @@ older_as x y z e h = subst (λ (l : Link). IsUntouched x l) (sym e) h
 
 -- an end that is not listed yet
 closed_apart : (wire : WireState) (k : ℕ) → (wire.links k).is_open ≡ true → (j : ℕ) → (wire.links j).is_open ≡ false → j ≢ k
-closed_apart wire k is_open j closed = λ e. is_not (wire.links j).is_open (ap (λ (x : ℕ). (wire.links x).is_open) e ∙ is_open) closed
+closed_apart wire k is_open j closed = λ e. not_both_ways (wire.links j).is_open (ap (λ (x : ℕ). (wire.links x).is_open) e ∙ is_open) closed
 
 module _ {C : Type 0} where
   pub at_cases : (at : ℕ → Option (Live C)) (key : ℕ) (o : Option (Live C)) (i : ℕ) (x : Live C) → updated at key o i ≡ Some x
       → ((i ≡ key) × (o ≡ Some x)) ⊎ ((i ≢ key) × (at i ≡ Some x))
-  at_cases at key o i x h = elim (same_or i key) [
+  at_cases at key o i x h = elim (cases_eq i key) [
     | inl e ↦ inl (e, sym (here at key o i e) ∙ h)
     | inr n ↦ inr (n, sym (there at key o i n) ∙ h)
   ]
@@ -74,7 +67,7 @@ module _ {C Data Settings : Type 0} where
   ordered_on : (kind : Kind C Data Settings) (since : Moment Data Settings) (talks : ℕ → Option (Talk C)) (a b : WireState) (k : ℕ) (o : Option (Talk C)) → (a.links k).is_open ≡ true → OnlyOn k a b
       → (j : ℕ) → IsOrdered kind since talks a j → IsOrdered kind since (updated talks k o) b j
   ordered_on kind since talks a b k o is_open only j h =
-      let n : j ≢ k = λ e. is_not (a.links j).is_open (ap (λ (x : ℕ). (a.links x).is_open) e ∙ is_open) h.closed in
+      let n : j ≢ k = λ e. not_both_ways (a.links j).is_open (ap (λ (x : ℕ). (a.links x).is_open) e ∙ is_open) h.closed in
       record {
         later = h.later;
         given = subst (λ (x : ℕ). j < x) (sym only.given) h.given;
@@ -92,9 +85,9 @@ module _ {C Data Settings : Type 0} where
   pub ends_on : (kind : Kind C Data Settings) (since : Moment Data Settings) (t : Traffic C Data) (a b : WireState) (k : ℕ) (o : Option (Talk C)) → (a.links k).is_open ≡ true → OnlyOn k a b
       → Ends kind since t a → Ends kind since (record t { talks = updated t.talks k o }) b
   ends_on kind since t a b k o is_open only e = record {
-    ordered = all_as _ _ (λ (j : ℕ). ordered_on kind since t.talks a b k o is_open only j) t.ordered e.ordered;
-    broken = all_as _ _ (λ (j : ℕ). gone_on since.wire a b k is_open only j) t.broken e.broken;
-    starved = all_as _ _ (λ (j : ℕ). gone_on since.wire a b k is_open only j) t.starved e.starved;
+    ordered = all_so _ _ (λ (j : ℕ). ordered_on kind since t.talks a b k o is_open only j) t.ordered e.ordered;
+    broken = all_so _ _ (λ (j : ℕ). gone_on since.wire a b k is_open only j) t.broken e.broken;
+    starved = all_so _ _ (λ (j : ℕ). gone_on since.wire a b k is_open only j) t.starved e.starved;
     ordered_once = e.ordered_once;
     broken_once = e.broken_once;
     starved_once = e.starved_once;
@@ -106,7 +99,7 @@ module _ {C Data Settings : Type 0} where
       (k : ℕ) (talk : Talk C) → Relates kind may first since t at len (moment served supply a) → OnlyOn k a b
       → IsTalk kind since t.history t.owner (moment served supply b) k talk
       → (j : ℕ) → since.wire.given ≤ j → j < b.given → Talks kind since (record t { talks = updated t.talks k (Some talk) }) (moment served supply b) j
-  talks_on kind may first since t at len served supply a b k talk r only is j later given = elim (same_or j k) [
+  talks_on kind may first since t at len served supply a b k talk r only is j later given = elim (cases_eq j k) [
     | inl e ↦ record { talk = talk; talk_is = here t.talks k (Some talk) j e; is = subst (λ (x : ℕ). IsTalk kind since t.history t.owner (moment served supply b) x talk) (sym e) is }
     | inr n ↦ let h = r.talks j later (subst (λ (x : ℕ). j < x) only.given given) in record {
       talk = h.talk;
@@ -172,7 +165,7 @@ module _ {C Data Settings : Type 0} where
         alone = λ i j x y h g e. let p = mine i x h in let q = mine j y g in r.alone i j p.0 q.0 p.1.0 q.1.0 (p.1.1 ∙ e ∙ sym q.1.1);
         talks = talks_on kind may first since t at len served supply a b l.link talk r only is;
         unseen = λ k above. there t.talks l.link (Some talk) k (λ e. let f = old.given in let g = only.given in absurd (omega (arith, above, e, f, g))) ∙ r.unseen k (subst (λ (y : ℕ). y ≤ k) only.given above);
-        owned = λ k later given opened. elim (same_or k l.link) [
+        owned = λ k later given opened. elim (cases_eq k l.link) [
           | inl e ↦ record { key = key; live = l'; found = here at key (Some l') key refl; link = link ∙ sym e }
           | inr n ↦ owned_on kind may first since t at len served supply a b key l (Some l') r found only k n later given opened
         ];
@@ -203,8 +196,8 @@ module _ {C Data Settings : Type 0} where
         alone = λ i j x y h g e. r.alone i j x y (mine i x h).1 (mine j y g).1 e;
         talks = λ k later given. let x = talks_on kind may first since t at len served supply a b l.link talk r only is k later given in record { talk = x.talk; talk_is = x.talk_is; is = x.is };
         unseen = λ k above. there t.talks l.link (Some talk) k (λ e. let f = old.given in let g = only.given in absurd (omega (arith, above, e, f, g))) ∙ r.unseen k (subst (λ (y : ℕ). y ≤ k) only.given above);
-        owned = λ k later given opened. elim (same_or k l.link) [
-          | inl e ↦ absurd (is_not (b.links k).is_open opened (ap (λ (x : ℕ). (b.links x).is_open) e ∙ closed))
+        owned = λ k later given opened. elim (cases_eq k l.link) [
+          | inl e ↦ absurd (not_both_ways (b.links k).is_open opened (ap (λ (x : ℕ). (b.links x).is_open) e ∙ closed))
           | inr n ↦ owned_on kind may first since t at len served supply a b key l None r found only k n later given opened
         ];
         older = λ k below. older_as (since.wire.links k) (a.links k) (b.links k) (only.others k (λ e. let f = old.later in absurd (omega (arith, below, e, f)))) (r.older k below);
@@ -239,7 +232,7 @@ module _ {C Data Settings : Type 0} where
         );
         broken = same.broken;
         starved = same.starved;
-        ordered_once = (all_as _ _ (λ (j : ℕ) (h : IsOrdered kind since t.talks a j). closed_apart a l.link old.is_open j h.closed) t.ordered r.ends.ordered, same.ordered_once);
+        ordered_once = (all_so _ _ (λ (j : ℕ) (h : IsOrdered kind since t.talks a j). closed_apart a l.link old.is_open j h.closed) t.ordered r.ends.ordered, same.ordered_once);
         broken_once = same.broken_once;
         starved_once = same.starved_once;
         faults = same.faults;
@@ -258,7 +251,7 @@ module _ {C Data Settings : Type 0} where
         broken = (record { later = old.later; given = subst (λ (y : ℕ). l.link < y) (sym only.given) old.given; closed = closed }, same.broken);
         starved = same.starved;
         ordered_once = same.ordered_once;
-        broken_once = (all_as _ _ (λ (j : ℕ) (h : IsGone since.wire a j). closed_apart a l.link old.is_open j h.closed) t.broken r.ends.broken, same.broken_once);
+        broken_once = (all_so _ _ (λ (j : ℕ) (h : IsGone since.wire a j). closed_apart a l.link old.is_open j h.closed) t.broken r.ends.broken, same.broken_once);
         starved_once = same.starved_once;
         faults = let f = r.ends.faults in omega (arith, f, rose);
       })
@@ -277,6 +270,6 @@ module _ {C Data Settings : Type 0} where
         starved = (record { later = old.later; given = subst (λ (y : ℕ). l.link < y) (sym only.given) old.given; closed = closed }, same.starved);
         ordered_once = same.ordered_once;
         broken_once = same.broken_once;
-        starved_once = (all_as _ _ (λ (j : ℕ) (h : IsGone since.wire a j). closed_apart a l.link old.is_open j h.closed) t.starved r.ends.starved, same.starved_once);
+        starved_once = (all_so _ _ (λ (j : ℕ) (h : IsGone since.wire a j). closed_apart a l.link old.is_open j h.closed) t.starved r.ends.starved, same.starved_once);
         faults = same.faults;
       })

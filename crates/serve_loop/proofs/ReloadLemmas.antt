@@ -1,9 +1,11 @@
 -- A reload: the history grows, and the link that asked for it owns the new number.
 use Rattle.std.proofs.Common.{ℕ, ◌≡◌, ◌≢◌, ◌+◌, ◌<◌, ◌≤◌, ◌⊎◌, inl, inr, ◌++◌, List, [], ◌∷◌, length, Option, Bool, true, false, refl, sym, ◌∙◌, ap, subst, arith, append-nil, append_assoc, length-append, if◌then◌else◌}
 use Rattle.std.specs.List.{AllByRecursion}
+use Rattle.list_laws.proofs.Each.{all_append, all_so}
 use Rattle.tpf_base.specs.Marks.{Mark, Served, Failed, Starved, version_at}
 use Rattle.tpf_base.specs.Causes.{Rose, counted}
 use Rattle.tpf_base.specs.Links.{WireState}
+use Rattle.tpf_base.proofs.SendingLemmas.{holds_by}
 use Rattle.connections.specs.declared.reloaded.Reloaded.{Reloaded}
 use Rattle.connections.specs.declared.reloaded.Reloaded.TheVariants as outcomes
 use Rattle.connections.specs.Versions.{Serving, IsHistory, MOST_VERSIONS, with_first}
@@ -11,7 +13,7 @@ use Rattle.connections.specs.Kinds.{Kind, Grows, Reloads, mark_of, numbers_of}
 use Rattle.serve_loop.specs.Traffic.{Talk, Given, Moment, took, with_given, updated}
 use Rattle.serve_loop.specs.Relates.{IsTalk, IsExcused, IsNumber, IsRising, Versions}
 use Rattle.serve_loop.specs.Steps.{Supplies, GoesOn}
-use Rattle.serve_loop.proofs.TalkLemmas.{all_append, all_as, plain, holds_as, served_excused, served_level}
+use Rattle.serve_loop.proofs.TalkLemmas.{plain, served_excused, served_level}
 use Rattle.serve_loop.proofs.RelatesLemmas.{there}
 
 took_both : {Data : Type 0} (b : Bool) (d : Data) (gs hs : List (Given Data)) → took (gs ++ hs) ≡ took gs ++ took hs
@@ -161,11 +163,11 @@ module _ {C Data Settings : Type 0} where
         within = h.within;
         sent_is = λ bytes b. h.sent_is bytes (ap (λ (w : WireState). (w.links k).sent) (sym wire) ∙ b);
         received_is = λ bytes b. h.received_is bytes (ap (λ (w : WireState). (w.links k).received) (sym wire) ∙ b);
-        excused = all_as _ _ (λ (m : Mark). excused_later since.supply.faults old.supply.faults now.supply.faults faults m) talk.marks h.excused;
+        excused = all_so _ _ (λ (m : Mark). excused_later since.supply.faults old.supply.faults now.supply.faults faults m) talk.marks h.excused;
         level = h.level;
         numbers = subst (λ (c : Settings). AllByRecursion (IsNumber (updated owner (old.served.version + 1) j) k since.served.version now.served.version) (kind.reloads c talk.fed talk.marks)) (sym config)
             (subst (λ (n : ℕ). AllByRecursion (IsNumber (updated owner (old.served.version + 1) j) k since.served.version n) (kind.reloads old.served.config talk.fed talk.marks)) (sym version)
-            (all_as _ _ (λ (n : ℕ). number_later owner k j since.served.version old.served.version n) (kind.reloads old.served.config talk.fed talk.marks) h.numbers));
+            (all_so _ _ (λ (n : ℕ). number_later owner k j since.served.version old.served.version n) (kind.reloads old.served.config talk.fed talk.marks) h.numbers));
         rising = subst (λ (c : Settings). IsRising (kind.reloads c talk.fed talk.marks)) (sym config) h.rising;
       }
 
@@ -187,17 +189,17 @@ module _ {C Data Settings : Type 0} where
             answers = reads.answers;
             within = omega arith;
             sent_is = h.sent_is;
-            received_is = holds_as _ _ _ (sym (append-nil (fed ++ []))) h.received_is;
-            excused = all_append _ marks (first ∷ [] ++ reads.later) h.excused (mark, all_as _ _ (λ (m : Mark). served_excused since.supply.faults now.supply.faults now.served.version m) reads.later reads.served);
+            received_is = holds_by _ _ _ (sym (append-nil (fed ++ []))) h.received_is;
+            excused = all_append _ marks (first ∷ [] ++ reads.later) h.excused (mark, all_so _ _ (λ (m : Mark). served_excused since.supply.faults now.supply.faults now.served.version m) reads.later reads.served);
             level = all_append _ marks (first ∷ [] ++ reads.later) h.level
-                (level_of since.served.version now.served.version outcome up, all_as _ _ (λ (m : Mark). served_level since.served.version now.served.version m up) reads.later reads.served);
+                (level_of since.served.version now.served.version outcome up, all_so _ _ (λ (m : Mark). served_level since.served.version now.served.version m up) reads.later reads.served);
             numbers = subst (λ (ns : List ℕ). AllByRecursion (IsNumber owner k since.served.version now.served.version) ns) (sym reads.numbers) (all_append _ (kind.reloads now.served.config fed marks) (numbers_of outcome) h.numbers numbers);
             rising = subst (λ (ns : List ℕ). IsRising ns) (sym reads.numbers) rising;
           },
           record {
             later = first ∷ [] ++ reads.later;
             marks = refl;
-            not_below = (level_of now.served.version now.served.version outcome (omega arith), all_as _ _ (λ (m : Mark). served_level now.served.version now.served.version m (omega arith)) reads.later reads.served);
+            not_below = (level_of now.served.version now.served.version outcome (omega arith), all_so _ _ (λ (m : Mark). served_level now.served.version now.served.version m (omega arith)) reads.later reads.served);
             piece = [];
             fed = refl;
             part = [];

@@ -1,6 +1,7 @@
 -- How a round stands behind the turns so far, and which part is next.
 use Rattle.std.proofs.Common.{ℕ, ◌≡◌, ◌+◌, ◌<◌, ◌≤◌, ◌==◌, inl, inr, List, [], ◌∷◌, Option, Some, Bool, true, false, refl, sym, ◌∙◌, ap, subst, arith, if◌then◌else◌}
 use Rattle.std.specs.Prelude.{◌&&◌}
+use Rattle.list_laws.proofs.Tests.{not_both_ways}
 use Rattle.tpf_base.specs.Links.{Link, WireState}
 use Rattle.connections.specs.Kinds.{Kind}
 use Rattle.serve_loop.specs.declared.live.Live.{Live}
@@ -17,7 +18,6 @@ use Rattle.serve_loop.specs.Rounds.{Turn, IsNext, IsAfter, is_last, is_still, ne
 use Rattle.serve_loop.proofs.BelowLemmas.{below_or}
 use Rattle.serve_loop.proofs.PartLemmas.{among_some}
 use Rattle.serve_loop.proofs.PreparedLemmas.{true_or}
-use Rattle.serve_loop.proofs.RelatesLemmas.{is_not}
 
 -- a turn of this part that began when so many links had been given
 abbrev pub turn_of : Part → ℕ → Turned → Turn
@@ -84,7 +84,7 @@ module _ {C Data Settings : Type 0} where
   stays_closed kind may first since now t at live part turned b c r busy between k given closed =
       let bg = busy.given in
       let cg = between.given in
-      let same = busy.others k given (λ o. is_not (now.wire.links k).is_open
+      let same = busy.others k given (λ o. not_both_ways (now.wire.links k).is_open
       (subst (λ (j : ℕ). (now.wire.links j).is_open ≡ true) o.link (r.lives o.key o.live (among_some part (at o.key) o.live o.found).0).is_open) closed) in (
         omega (arith, given, bg, cg),
         ap (λ (l : Link). l.is_open) (between.links k (omega (arith, given, bg))).1 ∙ (ap (λ (l : Link). l.is_open) same ∙ closed),
@@ -134,7 +134,7 @@ module _ {C Data Settings : Type 0} where
         wide = λ few. let h = wide few in let l = s.least in omega (arith, h, from, l);
         newest = omega (arith, sn, newest);
         alone = λ k later given fits is_open above. elim (below_or k (begun_before since.wire.given turns)) [
-          | inl below ↦ absurd (is_not (now.wire.links k).is_open is_open (s.newest_gone k later (omega (arith, above, newest)) fits below).1)
+          | inl below ↦ absurd (not_both_ways (now.wire.links k).is_open is_open (s.newest_gone k later (omega (arith, above, newest)) fits below).1)
           | inr behind ↦ behind
         ];
       }

@@ -1,6 +1,7 @@
 -- The server's sentence follows from the relation alone.
 use Rattle.std.proofs.Common.{ℕ, ◌≡◌, ◌≢◌, ◌+◌, ◌≤◌, inl, inr, ◌++◌, List, [], ◌∷◌, length, take, Option, Some, refl, sym, ◌∙◌, ap, subst, arith, append-nil, length-append}
 use Rattle.std.specs.List.{AllByRecursion}
+use Rattle.list_laws.proofs.Each.{all_append, all_so}
 use Rattle.tpf_base.specs.Marks.{Mark, Served, Failed, Starved, version_at}
 use Rattle.tpf_base.specs.Causes.{counted_by}
 use Rattle.connections.specs.Versions.{Serving, IsHistory}
@@ -10,7 +11,7 @@ use Rattle.serve_loop.specs.Traffic.{Talk, Traffic, Moment}
 use Rattle.serve_loop.specs.Relates.{IsTalk, IsExcused, IsNumber, IsRising, IsOrdered, AreDistinct, Relates}
 use Rattle.serve_loop.specs.Sentence.{SendsResponse, SendsWhole, Sentence, WholeSentence, SpeaksWhole}
 use Rattle.serve_loop.specs.Steps.{EndsBy}
-use Rattle.serve_loop.proofs.TalkLemmas.{all_append, all_as, up_since}
+use Rattle.serve_loop.proofs.TalkLemmas.{up_since}
 
 pad_excused : (before now : ℕ) (m : Mark) → IsNoFailure m → IsExcused before now m
 pad_excused before now (Served version) h = tt
@@ -56,9 +57,9 @@ module _ {C Data Settings : Type 0} where
         rest = b.rest;
         response = b.text;
         excused = subst (λ (ms : List Mark). AllByRecursion (IsExcused since.supply.faults now.supply.faults) ms) (sym b.split)
-            (all_append _ talk.marks b.padding h.excused (all_as _ _ (λ (m : Mark). pad_excused since.supply.faults now.supply.faults m) b.padding b.no_failure));
+            (all_append _ talk.marks b.padding h.excused (all_so _ _ (λ (m : Mark). pad_excused since.supply.faults now.supply.faults m) b.padding b.no_failure));
         level = subst (λ (ms : List Mark). AllByRecursion (λ mark. since.served.version ≤ version_at mark) ms) (sym b.split)
-            (all_append _ talk.marks b.padding h.level (all_as _ _ (λ (m : Mark). from_latest since.served.version (length history) m low) b.padding b.latest));
+            (all_append _ talk.marks b.padding h.level (all_so _ _ (λ (m : Mark). from_latest since.served.version (length history) m low) b.padding b.latest));
         numbers = subst (λ (ns : List ℕ). AllByRecursion (IsNumber owner k since.served.version now.served.version) ns) (sym b.numbers) h.numbers;
         rising = subst (λ (ns : List ℕ). IsRising ns) (sym b.numbers) h.rising;
       }))
@@ -119,7 +120,7 @@ module _ {C Data Settings : Type 0} where
       record {
         whole = e.ordered;
         once = distinct_front e.ordered t.ordered (subst (λ (xs : List ℕ). AreDistinct xs) e.ordered_is r.ends.ordered_once);
-        each = all_as _ _ (λ (k : ℕ). sends_whole kind whole may first since u at len now r k) e.ordered (all_front (IsOrdered kind since u.talks now.wire) e.ordered t.ordered each);
+        each = all_so _ _ (λ (k : ℕ). sends_whole kind whole may first since u at len now r k) e.ordered (all_front (IsOrdered kind since u.talks now.wire) e.ordered t.ordered each);
         broken = length e.broken;
         wanted = wanted;
         connections_is = c ∙ ap (λ (n : ℕ). counted_by n 0) (let x : count ≡ length e.ordered + length e.broken + wanted = omega (arith, ci, wi) in x);

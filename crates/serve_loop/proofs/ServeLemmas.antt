@@ -1,7 +1,6 @@
 -- Turns, one after another, and the exit.
-use Rattle.std.proofs.Common.{ℕ, ◌≡◌, ◌+◌, ◌-◌, ◌<◌, ◌≤◌, List, [], ◌∷◌, ◌++◌, replicate, Option, Some, None, refl, sym, ◌∙◌, ap, subst, arith, length-append}
-use Rattle.std.proofs.lemmas.List.{length-replicate}
-use Rattle.std.specs.Prelude.{◌↔◌, IfSome, IfOk, Result, Ok, Err}
+use Rattle.std.proofs.Common.{ℕ, ◌≡◌, ◌+◌, ◌-◌, ◌<◌, ◌≤◌, List, Option, Some, None, sym, ◌∙◌, ap, subst, arith}
+use Rattle.std.specs.Prelude.{◌↔◌, IfSome}
 use Rattle.tpf_base.specs.Causes.{counted_by}
 use Rattle.tpf_base.specs.Links.{WireState}
 use Rattle.connections.specs.Versions.{Serving, IsHistory, SupplyState}
@@ -27,17 +26,6 @@ use Rattle.serve_loop.proofs.StepLemmas.{begins}
 counts_more : (x y z n e : ℕ) → x ≡ counted_by n 0 → y ≡ counted_by e x → y ≡ counted_by (n + e) 0
 counts_more x y z n e p q = omega (arith, p, q)
 
--- a history with this server at its end
-pub some_history : {Data Settings : Type 0} (server : Serving Data Settings) → 1 ≤ server.version → (first : List Data) × IsHistory first server
-some_history {Data = Data} server one = (
-  replicate (server.version - 1) server.data_set ++ server.data_set ∷ [],
-  record {
-    count = omega (arith, one, length-append (replicate (server.version - 1) server.data_set) (server.data_set ∷ []), length-replicate (server.version - 1) server.data_set);
-    before = replicate (server.version - 1) server.data_set;
-    last = refl;
-  },
-)
-
 -- ---- how many are enough
 
 pub less_if : (o : Option ℕ) (n : ℕ) → IfSome o (λ m. n < m) → IfSome o (λ m. n ≤ m - 1)
@@ -51,10 +39,6 @@ first_if (Some m) x y e is few h = omega (arith, is, few, h)
 pub zero_if : (o : Option ℕ) → IfSome o (λ m. 0 ≤ m - 1)
 zero_if None = tt
 zero_if (Some m) = omega arith
-
-pub if_ok_map : {X E : Type 0} (r : Result X E) (P Q : X → Type 0) → ((x : X) → P x → Q x) → IfOk r P → IfOk r Q
-if_ok_map (Ok x) P Q f h = f x h
-if_ok_map (Err e) P Q f h = tt
 
 module _ {C : Type 0} where
   -- after a wait the same connections suit the wire

@@ -1,6 +1,7 @@
 -- The turns and waits of a service, one after another.
 use Rattle.std.proofs.Common.{ℕ, ◌≡◌, ◌+◌, ◌<◌, ◌≤◌, ◌^◌, inl, inr, List, [], ◌∷◌, ◌++◌, take, Option, Some, None, true, refl, sym, ◌∙◌, ap, subst, arith, append-nil}
-use Rattle.std.specs.Prelude.{IfSome, IfErr, Result, Ok, Err}
+use Rattle.std.specs.Prelude.{IfSome, IfErr, Result, Err}
+use Rattle.list_laws.proofs.Tests.{not_both_ways}
 use Rattle.tpf_base.specs.Causes.{Rose, counted_by}
 use Rattle.tpf_base.specs.Links.{Door, WireState}
 use Rattle.connections.specs.Kinds.{Kind}
@@ -19,7 +20,6 @@ use Rattle.serve_loop.specs.Calls.{ServesAlone, IsBusy, LeavesAll, IsOwned}
 use Rattle.serve_loop.specs.Service.{ended_in, ServesLink, TakesTurn, ComesAfter, TookTurns, AreTooFew, FailsTurn, FailsWait, RoseAtDoor, HasDoorCause, ServesTurns, FailsTurns}
 use Rattle.serve_loop.proofs.CloseLemmas.{links_none, links_then}
 use Rattle.serve_loop.proofs.PartLemmas.{among_some, among_in}
-use Rattle.serve_loop.proofs.RelatesLemmas.{is_not}
 use Rattle.serve_loop.proofs.RoundLemmas.{Stands, turn_of}
 use Rattle.serve_loop.proofs.SentenceLemmas.{has_one, some_same}
 
@@ -89,7 +89,7 @@ module _ {C Data Settings : Type 0} where
     next = next;
     begun = refl;
     links = λ k later given is_open inside. serves_link kind may first since now t part turned at live b config k is r busy later given inside (r.owned k later given is_open);
-    spared = λ k below out. busy.others k below (λ o. is_not (is_in part k) (sym (ap (λ (j : ℕ). is_in part j) o.link) ∙ (among_some part (at o.key) o.live o.found).1) out);
+    spared = λ k below out. busy.others k below (λ o. not_both_ways (is_in part k) (sym (ap (λ (j : ℕ). is_in part j) o.link) ∙ (among_some part (at o.key) o.live o.found).1) out);
     others = λ k below. busy.others k (omega (arith, below, links)) (λ o. let x = (r.lives o.key o.live (among_some part (at o.key) o.live o.found).0).later in let s = o.link in absurd (omega (arith, below, x, s)));
     door = elim busy.door [ inl many ↦ inl (omega (arith, many, links)) | inr asked ↦ inr asked ];
     moved = λ e. elim (busy.moved e) [
@@ -186,10 +186,6 @@ module _ {C Data Settings : Type 0} where
     last = s.last;
     left = links_then at s.after a b s.left leaves;
   }
-
-pub if_err_map : {X E : Type 0} (r : Result X E) (P Q : E → Type 0) → ((e : E) → P e → Q e) → IfErr r P → IfErr r Q
-if_err_map (Ok x) P Q f h = tt
-if_err_map (Err e) P Q f h = f e h
 
 -- ---- a fault, since an earlier moment
 

@@ -3,10 +3,11 @@ use Rattle.std.proofs.Common.{ℕ, zero, suc, ◌≡◌, ◌+◌, ◌<◌, ◌�
 use Rattle.std.specs.Prelude.{cond, count_by, is_some, OnSome}
 use Rattle.std.proofs.lemmas.List.Sums.{sum_by-set}
 use Rattle.std.proofs.lemmas.List.{get_or-set_same, get_or-set_other, get_or_past}
+use Rattle.std.proofs.lemmas.Bool.{cases_eq}
 use Rattle.slab.specs.Slab.{Slab, get, slab_len, with_value, Updates}
 use Rattle.serve_loop.specs.Traffic.{updated}
 use Rattle.serve_loop.proofs.BelowLemmas.{below_or}
-use Rattle.serve_loop.proofs.RelatesLemmas.{here, there, same_or, none_some}
+use Rattle.serve_loop.proofs.RelatesLemmas.{here, there, none_some}
 
 abbrev one_or_none : {T : Type 0} → Option T → ℕ
 one_or_none o = cond (is_some o) 1 0
@@ -24,7 +25,7 @@ module _ {T : Type 0} where
 
   -- a value written where one was
   pub written : (s : Slab T) (key : ℕ) (x y : T) → get s key ≡ Some x → (k : ℕ) → get (with_value s key y) k ≡ updated (get s) key (Some y) k
-  written s key x y e k = elim (same_or k key) [
+  written s key x y e k = elim (cases_eq k key) [
     | inl p ↦ ap (λ (n : ℕ). get (with_value s key y) n) p ∙ get_or-set_same s.slots key (Some y) None (within_slots s key x e) ∙ sym (here (get s) key (Some y) k p)
     | inr n ↦ get_or-set_other s.slots key k (Some y) None n ∙ sym (there (get s) key (Some y) k n)
   ]
@@ -37,7 +38,7 @@ module _ {T : Type 0} where
 
   -- a value taken out after one was written
   pub taken_out : (s u : Slab T) (key : ℕ) (x y : T) → get s key ≡ Some x → Updates (with_value s key y) u key None → (k : ℕ) → get u k ≡ updated (get s) key None k
-  taken_out s u key x y e h k = elim (same_or k key) [
+  taken_out s u key x y e h k = elim (cases_eq k key) [
     | inl p ↦ ap (get u) p ∙ h.changed ∙ sym (here (get s) key None k p)
     | inr n ↦ h.others k n ∙ written s key x y e k ∙ there (get s) key (Some y) k n ∙ sym (there (get s) key None k n)
   ]

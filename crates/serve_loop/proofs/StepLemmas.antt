@@ -1,5 +1,6 @@
 -- A step on a link is a step of the traffic; and a loop without connections begins with no traffic.
 use Rattle.std.proofs.Common.{ℕ, ◌≡◌, ◌-◌, ◌<◌, ◌≤◌, inl, inr, List, [], ◌∷◌, Option, Some, None, true, refl, sym, ◌∙◌, ap, subst, arith, append-nil}
+use Rattle.std.proofs.lemmas.Bool.{cases_eq}
 use Rattle.tpf_base.specs.Causes.{Rose}
 use Rattle.tpf_base.specs.Links.{WireState, Way}
 use Rattle.tpf_base.specs.Calls.{OnlyOn}
@@ -14,7 +15,7 @@ use Rattle.serve_loop.specs.Calls.{HasCalled, left_by}
 use Rattle.serve_loop.specs.Steps.{GoesOn, GoesOnAt, EndsBy, TalksTo, StepsLink, StepsTo}
 use Rattle.serve_loop.proofs.TalkLemmas.{goes_nowhere, up_since}
 use Rattle.serve_loop.proofs.SentenceLemmas.{some_same}
-use Rattle.serve_loop.proofs.RelatesLemmas.{here, there, same_or, stays_live, ends_ordered, ends_broken, ends_starved}
+use Rattle.serve_loop.proofs.RelatesLemmas.{here, there, stays_live, ends_ordered, ends_broken, ends_starved}
 use Rattle.serve_loop.proofs.EndsLemmas.{ends_none}
 
 module _ {C : Type 0} where
@@ -28,7 +29,7 @@ module _ {C : Type 0} where
   -- the talk of one link went on, and all others are as they were
   pub goes_on : (version : ℕ) (talks : ℕ → Option (Talk C)) (k : ℕ) (x y : Talk C) → talks k ≡ Some x → GoesOn version x y
       → (j : ℕ) → GoesOnAt version (talks j) (updated talks k (Some y) j)
-  goes_on version talks k x y e h j = elim (same_or j k) [
+  goes_on version talks k x y e h j = elim (cases_eq j k) [
     | inl p ↦ goes_at version (talks j) (updated talks k (Some y) j) x y (ap talks p ∙ e) (here talks k (Some y) j p) h
     | inr n ↦ subst (λ (q : Option (Talk C)). GoesOnAt version (talks j) q) (sym (there talks k (Some y) j n)) (goes_same version (talks j))
   ]

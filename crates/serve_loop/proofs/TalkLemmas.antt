@@ -1,17 +1,19 @@
 -- What a call on a link does to its talk.
-use Rattle.std.proofs.Common.{ℕ, ◌≡◌, ◌<◌, ◌≤◌, inl, inr, ◌++◌, List, [], ◌∷◌, length, take, Option, Some, None, true, refl, sym, ◌∙◌, ap, subst, arith, append-nil}
+use Rattle.std.proofs.Common.{ℕ, ◌≡◌, ◌<◌, ◌≤◌, inl, inr, ◌++◌, List, [], length, take, true, refl, sym, ◌∙◌, ap, subst, arith, append-nil}
 use Rattle.std.specs.List.{AllByRecursion}
 use Rattle.std.proofs.lemmas.List.{length-take-le}
 use Rattle.std.specs.Io.KnownBytes.{append_known}
+use Rattle.list_laws.proofs.Each.{all_append, all_so}
 use Rattle.tpf_base.specs.Causes.{Rose}
 use Rattle.tpf_base.specs.declared.wire.Moved.TheVariants as answers
 use Rattle.tpf_base.specs.Links.{WireState}
 use Rattle.tpf_base.specs.Calls.{Sends, Receives, Closes}
-use Rattle.tpf_base.specs.Sending.{Holds}
 use Rattle.tpf_base.specs.Marks.{Mark, Served, version_at}
+use Rattle.tpf_base.proofs.SendingLemmas.{holds_by, holds_same, holds_append}
 use Rattle.connections.specs.Versions.{Serving, IsHistory, SupplyState}
 use Rattle.connections.specs.Kinds.{Kind, Takes}
 use Rattle.serve_loop.specs.declared.live.Stepped.{Stepped}
+use Rattle.serve_loop.specs.declared.live.TheConstants.{MOST_RECEIVED}
 use Rattle.serve_loop.specs.declared.live.Stepped.TheVariants as stepped
 use Rattle.serve_loop.specs.declared.step.Received.TheVariants as received
 use Rattle.serve_loop.specs.Traffic.{Talk, Given, Moment, moment}
@@ -19,24 +21,6 @@ use Rattle.serve_loop.specs.Relates.{IsTalk, IsExcused, IsNumber, IsRising, Vers
 use Rattle.serve_loop.specs.Steps.{GoesOn, EndsAs, TalksTo, StepsLink, Makes, IsFull, IsFilled, AnswersPiece, Hears, IsReady}
 use Rattle.serve_loop.specs.Calls.{IsQuiet}
 use Rattle.serve_loop.proofs.CallLemmas.{receives_only}
-
-pub holds_as : (told : Option (List ℕ)) (x y : List ℕ) → x ≡ y → Holds told x → Holds told y
-holds_as told x y e h = λ bytes b. h bytes b ∙ e
-
-pub holds_same : {T : Type 0} (told now : Option T) (x : T) → now ≡ told → Holds told x → Holds now x
-holds_same told now x e h = λ fact b. h fact (sym e ∙ b)
-
-pub holds_append : (told now : Option (List ℕ)) (x y : List ℕ) → now ≡ append_known told y → Holds told x → Holds now (x ++ y)
-holds_append None now x y e h = λ bytes b. cc
-holds_append (Some xs) now x y e h = λ bytes b. let f = h xs refl in cc
-
-pub all_append : {X : Type 0} (P : X → Type 0) (xs ys : List X) → AllByRecursion P xs → AllByRecursion P ys → AllByRecursion P (xs ++ ys)
-all_append P [] ys a b = b
-all_append P (x ∷ xs) ys a b = (a.0, all_append P xs ys a.1 b)
-
-pub all_as : {X : Type 0} (P Q : X → Type 0) → ((x : X) → P x → Q x) → (xs : List X) → AllByRecursion P xs → AllByRecursion Q xs
-all_as P Q f [] a = tt
-all_as P Q f (x ∷ xs) a = (f x a.0, all_as P Q f xs a.1)
 
 pub closes_as : (k j : ℕ) (a b : WireState) → j ≡ k → Closes j a b → Closes k a b
 closes_as k j a b e c = subst (λ (n : ℕ). Closes n a b) e c
@@ -104,7 +88,7 @@ module _ {C Data Settings : Type 0} where
     is = record {
       answers = takes.answers history served.config fed taken marks h.answers;
       within = omega arith;
-      sent_is = holds_as _ _ _ (sym (append-nil _)) (holds_append (a.links k).sent (b.links k).sent taken _ s (holds_as _ _ _ (append-nil taken) h.sent_is));
+      sent_is = holds_by _ _ _ (sym (append-nil _)) (holds_append (a.links k).sent (b.links k).sent taken _ s (holds_by _ _ _ (append-nil taken) h.sent_is));
       received_is = holds_same _ _ _ r h.received_is;
       excused = h.excused;
       level = h.level;
@@ -126,7 +110,7 @@ module _ {C Data Settings : Type 0} where
     is = record {
       answers = h.answers;
       within = fits;
-      sent_is = holds_append (a.links k).sent (b.links k).sent taken _ s (holds_as _ _ _ (append-nil taken) h.sent_is);
+      sent_is = holds_append (a.links k).sent (b.links k).sent taken _ s (holds_by _ _ _ (append-nil taken) h.sent_is);
       received_is = holds_same _ _ _ r h.received_is;
       excused = h.excused;
       level = h.level;
@@ -173,16 +157,16 @@ module _ {C Data Settings : Type 0} where
           answers = made_answers kind served answered.read new history (fed ++ piece) taken (marks ++ reads.later) answered.makes reads.answers;
           within = omega arith;
           sent_is = holds_same _ _ _ s h.sent_is;
-          received_is = holds_as _ _ _ (sym (append-nil _)) (holds_append (a.links k).received (b.links k).received fed piece r (holds_as _ _ _ (append-nil fed) h.received_is));
-          excused = all_append _ marks reads.later h.excused (all_as _ _ (λ (m : Mark). served_excused since.supply.faults supply.faults served.version m) reads.later reads.served);
-          level = all_append _ marks reads.later h.level (all_as _ _ (λ (m : Mark). served_level since.served.version served.version m up) reads.later reads.served);
+          received_is = holds_by _ _ _ (sym (append-nil _)) (holds_append (a.links k).received (b.links k).received fed piece r (holds_by _ _ _ (append-nil fed) h.received_is));
+          excused = all_append _ marks reads.later h.excused (all_so _ _ (λ (m : Mark). served_excused since.supply.faults supply.faults served.version m) reads.later reads.served);
+          level = all_append _ marks reads.later h.level (all_so _ _ (λ (m : Mark). served_level since.served.version served.version m up) reads.later reads.served);
           numbers = subst (λ (ns : List ℕ). AllByRecursion (IsNumber owner k since.served.version served.version) ns) (sym same) h.numbers;
           rising = subst (λ (ns : List ℕ). IsRising ns) (sym same) h.rising;
         };
         goes_on = record {
           later = reads.later;
           marks = refl;
-          not_below = all_as _ _ (λ (m : Mark). served_level served.version served.version m (omega arith)) reads.later reads.served;
+          not_below = all_so _ _ (λ (m : Mark). served_level served.version served.version m (omega arith)) reads.later reads.served;
           piece = piece;
           fed = append-nil _ ∙ ap (λ (x : List ℕ). x ++ piece) (sym (append-nil fed));
           part = [];
@@ -203,7 +187,7 @@ module _ {C Data Settings : Type 0} where
       answers = h.answers;
       within = omega arith;
       sent_is = holds_same _ _ _ s h.sent_is;
-      received_is = holds_append (a.links k).received (b.links k).received fed piece r (holds_as _ _ _ (append-nil fed) h.received_is);
+      received_is = holds_append (a.links k).received (b.links k).received fed piece r (holds_by _ _ _ (append-nil fed) h.received_is);
       excused = h.excused;
       level = h.level;
       numbers = h.numbers;
@@ -342,7 +326,7 @@ module _ {C Data Settings : Type 0} where
   -- ---- what a receive did
 
   pub hears_fed : (kind : Kind C Data Settings) (served : Serving Data Settings) (k : ℕ) (old new : C) (a b : WireState) (buffer : List ℕ) (n : ℕ)
-      → length buffer ≤ 2048 → Receives k buffer a b (answers.Moved n) → AnswersPiece kind served (take n buffer) old new
+      → length buffer ≤ MOST_RECEIVED → Receives k buffer a b (answers.Moved n) → AnswersPiece kind served (take n buffer) old new
       → Hears kind served k old new a b received.Fed
   hears_fed kind served k old new a b buffer n few r answered = let m = r.moved n refl in record {
     only = receives_only k buffer a b (answers.Moved n) r;
@@ -363,7 +347,7 @@ module _ {C Data Settings : Type 0} where
   }
 
   pub hears_unfed : (kind : Kind C Data Settings) (served : Serving Data Settings) (k : ℕ) (old new : C) (a b : WireState) (buffer : List ℕ) (n : ℕ)
-      → length buffer ≤ 2048 → Receives k buffer a b (answers.Moved n) → Hears kind served k old new a b received.Starved
+      → length buffer ≤ MOST_RECEIVED → Receives k buffer a b (answers.Moved n) → Hears kind served k old new a b received.Starved
   hears_unfed kind served k old new a b buffer n few r = let m = r.moved n refl in record {
     only = receives_only k buffer a b (answers.Moved n) r;
     sent = r.sent;

@@ -11,14 +11,15 @@ use Rattle.serve_loop.specs.Traffic.{Traffic, Moment, took, updated}
 use Rattle.serve_loop.specs.Relates.{Relates, SuitsWire}
 use Rattle.serve_loop.specs.Calls.{ended_by, starved_by, left_by, ends, turned_by, turned_with}
 use Rattle.serve_loop.specs.Steps.{StepsOn, TurnsTo}
-use Rattle.serve_loop.proofs.TalkLemmas.{all_as}
-use Rattle.serve_loop.proofs.RelatesLemmas.{here, there, same_or, none_some}
+use Rattle.serve_loop.proofs.RelatesLemmas.{here, there, none_some}
 use Rattle.serve_loop.proofs.StepLemmas.{goes_same}
 use Rattle.serve_loop.proofs.EndsLemmas.{ends_same, ends_then, ends_as}
 use Rattle.serve_loop.proofs.ChainLemmas.{relates_same, goes_on_then}
 use Rattle.serve_loop.proofs.BelowLemmas.{nothing}
 use Rattle.serve_loop.proofs.SlotLemmas.{written, written_len, taken_out, has_some, fewer_by_one}
 use Rattle.std.specs.Prelude.{OnSome, ◌↔◌}
+use Rattle.std.proofs.lemmas.Bool.{cases_eq}
+use Rattle.list_laws.proofs.Each.{all_so}
 use Rattle.slab.specs.Slab.{Slab, get, slab_len, with_value, Updates}
 
 ended_turned : (answer : Stepped) → ended_by answer ≡ (turned_by (Some answer)).ended
@@ -94,7 +95,7 @@ module _ {C Data Settings : Type 0} where
   pub relates_may : (kind : Kind C Data Settings) (may may' : Data → Type 0) (first : List Data) (since : Moment Data Settings) (t : Traffic C Data) (at : ℕ → Option (Live C)) (len : ℕ) (now : Moment Data Settings)
       → ((d : Data) → may d → may' d) → Relates kind may first since t at len now → Relates kind may' first since t at len now
   relates_may kind may may' first since t at len now f r = let v = r.versions in record {
-    versions = record { history_is = v.history_is; serves = v.serves; config = v.config; count = v.count; left = v.left; may_be = all_as may may' f (took t.given) v.may_be; faults = v.faults };
+    versions = record { history_is = v.history_is; serves = v.serves; config = v.config; count = v.count; left = v.left; may_be = all_so may may' f (took t.given) v.may_be; faults = v.faults };
     lives = r.lives;
     alone = r.alone;
     talks = r.talks;
@@ -187,7 +188,7 @@ module _ {C : Type 0} where
   -- what a step leaves at a key is its connection, and at the others what was there
   pub from_before : (at at' : ℕ → Option (Live C)) (key : ℕ) (l' : Live C) (answer : Stepped) → ((k : ℕ) → at' k ≡ updated at key (left_by answer l') k)
       → (k : ℕ) (x : Live C) → at' k ≡ Some x → ((k ≡ key) × (left_by answer l' ≡ Some l') × (x ≡ l')) ⊎ ((k ≢ key) × (at k ≡ Some x))
-  from_before at at' key l' answer is k x h = elim (same_or k key) [
+  from_before at at' key l' answer is k x h = elim (cases_eq k key) [
     | inl e ↦ let p = left_is l' x answer (sym (here at key (left_by answer l') k e) ∙ sym (is k) ∙ h) in inl (e, p.0, p.1)
     | inr n ↦ inr (n, sym (there at key (left_by answer l') k n) ∙ sym (is k) ∙ h)
   ]

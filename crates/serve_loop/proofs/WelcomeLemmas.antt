@@ -21,9 +21,13 @@ use Rattle.serve_loop.proofs.PartLemmas.{among_some, among_in}
 use Rattle.serve_loop.proofs.CallLemmas.{alone_none, alone_then}
 use Rattle.serve_loop.proofs.BelowLemmas.{nothing, live_keeps, moves_on, stays_on}
 use Rattle.tpf_base.specs.Causes.{Rose}
-use Rattle.std.specs.Prelude.{◌||◌, Result, Ok, Err, OnErr}
-use Rattle.serve_loop.proofs.TalkLemmas.{same_talk, all_as, holds_same, plain}
-use Rattle.serve_loop.proofs.RelatesLemmas.{here, there, same_or, none_some, is_not, versions_on, older_as}
+use Rattle.std.specs.Prelude.{◌||◌}
+use Rattle.std.proofs.lemmas.Bool.{cases_eq}
+use Rattle.list_laws.proofs.Each.{all_so}
+use Rattle.list_laws.proofs.Tests.{not_both_ways}
+use Rattle.tpf_base.proofs.SendingLemmas.{holds_same}
+use Rattle.serve_loop.proofs.TalkLemmas.{same_talk, plain}
+use Rattle.serve_loop.proofs.RelatesLemmas.{here, there, none_some, versions_on, older_as}
 use Rattle.serve_loop.proofs.SentenceLemmas.{some_same}
 use Rattle.serve_loop.proofs.StepLemmas.{goes_same}
 use Rattle.serve_loop.proofs.EndsLemmas.{ends_same, ends_none, ends_then, ends_as}
@@ -61,7 +65,7 @@ untouched_same x y e = older_as x x y e (x.woken, refl)
 -- a wait that answered
 pub rests_wakes : (a b : WireState) (answer : Ready) → Wakes answer a b → OnlyWaits a b → RestsWire a b
 rests_wakes a b (ready.Link k) w x = record {
-  links = λ j. elim (same_or j k) [
+  links = λ j. elim (cases_eq j k) [
     | inl e ↦ subst (λ (i : ℕ). IsUntouched (a.links i) (b.links i)) (sym e) (true, w.1)
     | inr n ↦ untouched_same (a.links j) (b.links j) (w.2 j n)
   ];
@@ -92,21 +96,17 @@ gone_given since a b g k h =
     let gm = g.more in
     record { later = h.later; given = omega (arith, hg, gm); closed = ap (λ (x : Link). x.is_open) (g.others k (λ e. absurd (omega (arith, hg, e)))) ∙ h.closed }
 
-pub on_err : {X E : Type 0} (r : Result X E) (P : Type 0) → P → OnErr r P
-on_err (Ok x) P p = tt
-on_err (Err e) P p = p
-
 pub or_true : (x y : Bool) → x ≡ true → true ≡ (x || y)
 or_true true y e = refl
 or_true false y e = cc
 
 pub or_else : (x y : Bool) → x ≡ false → y ≡ (x || y)
-or_else true y e = absurd (is_not true refl e)
+or_else true y e = absurd (not_both_ways true refl e)
 or_else false y e = refl
 
 module _ {C : Type 0} where
   new_goes_on : (version : ℕ) (talks : ℕ → Option (Talk C)) (k : ℕ) (c : C) → talks k ≡ None → (j : ℕ) → GoesOnAt version (talks j) (updated talks k (Some (plain [] [] [] c)) j)
-  new_goes_on version talks k c none j = elim (same_or j k) [
+  new_goes_on version talks k c none j = elim (cases_eq j k) [
     | inl p ↦ subst (λ (o : Option (Talk C)). GoesOnAt version o (updated talks k (Some (plain [] [] [] c)) j)) (sym (ap talks p ∙ none))
         (subst (λ (o : Option (Talk C)). GoesOnAt version None o) (sym (here talks k (Some (plain [] [] [] c)) j p)) tt)
     | inr n ↦ subst (λ (o : Option (Talk C)). GoesOnAt version (talks j) o) (sym (there talks k (Some (plain [] [] [] c)) j n)) (goes_same version (talks j))
@@ -160,9 +160,9 @@ module _ {C Data Settings : Type 0} where
         older = λ k below. untouched_then (since.wire.links k) (a.links k) (b.links k) (r.older k below) (w.links k);
         count = wg ∙ r.count;
         ends = record {
-          ordered = all_as _ _ (λ (k : ℕ). ordered_rests kind since t.talks a b w k) t.ordered e.ordered;
-          broken = all_as _ _ (λ (k : ℕ). gone_rests since.wire a b w k) t.broken e.broken;
-          starved = all_as _ _ (λ (k : ℕ). gone_rests since.wire a b w k) t.starved e.starved;
+          ordered = all_so _ _ (λ (k : ℕ). ordered_rests kind since t.talks a b w k) t.ordered e.ordered;
+          broken = all_so _ _ (λ (k : ℕ). gone_rests since.wire a b w k) t.broken e.broken;
+          starved = all_so _ _ (λ (k : ℕ). gone_rests since.wire a b w k) t.starved e.starved;
           ordered_once = e.ordered_once;
           broken_once = e.broken_once;
           starved_once = e.starved_once;
@@ -218,7 +218,7 @@ module _ {C Data Settings : Type 0} where
       let rc = r.count in
       let l : Live C = record { link = a.given; connection = c } in
       let back : (i : ℕ) (x : Live C) → at' i ≡ Some x → ((i ≡ key) × (x ≡ l)) ⊎ ((i ≢ key) × (at i ≡ Some x)) =
-      λ i x h. elim (same_or i key) [
+      λ i x h. elim (cases_eq i key) [
         | inl p ↦ inl (p, some_same (at' key) x l (ap at' (sym p) ∙ h) found)
         | inr n ↦ inr (n, sym (others i n) ∙ h)
       ] in
@@ -257,7 +257,7 @@ module _ {C Data Settings : Type 0} where
             | inr q ↦ r.alone i j x y p.1 q.1 s
           ]
         ];
-        talks = λ k later given. elim (same_or k a.given) [
+        talks = λ k later given. elim (cases_eq k a.given) [
           | inl p ↦ record {
             talk = plain [] [] [] c;
             talk_is = here t.talks a.given (Some (plain [] [] [] c)) k p;
@@ -270,7 +270,7 @@ module _ {C Data Settings : Type 0} where
           }
         ];
         unseen = λ k above. there t.talks a.given (Some (plain [] [] [] c)) k (λ s. absurd (omega (arith, above, gm, s))) ∙ r.unseen k (omega (arith, above, gm));
-        owned = λ k later given is_open. elim (same_or k a.given) [
+        owned = λ k later given is_open. elim (cases_eq k a.given) [
           | inl p ↦ record { key = key; live = l; found = found; link = sym p }
           | inr n ↦ let o = r.owned k later (below_other k a.given b.given gm given n) (ap (λ (y : Link). y.is_open) (sym (g.others k n)) ∙ is_open) in
               record { key = o.key; live = o.live; found = others o.key (λ s. none_some o.live (sym vacant ∙ ap at (sym s) ∙ o.found)) ∙ o.found; link = o.link }
@@ -278,9 +278,9 @@ module _ {C Data Settings : Type 0} where
         older = λ k below. older_as (since.wire.links k) (a.links k) (b.links k) (g.others k (λ s. absurd (omega (arith, below, rc, s)))) (r.older k below);
         count = omega (arith, gm, rc, more);
         ends = record {
-          ordered = all_as _ _ (λ (k : ℕ). ordered_given kind since t.talks a b (Some (plain [] [] [] c)) g k) t.ordered e.ordered;
-          broken = all_as _ _ (λ (k : ℕ). gone_given since.wire a b g k) t.broken e.broken;
-          starved = all_as _ _ (λ (k : ℕ). gone_given since.wire a b g k) t.starved e.starved;
+          ordered = all_so _ _ (λ (k : ℕ). ordered_given kind since t.talks a b (Some (plain [] [] [] c)) g k) t.ordered e.ordered;
+          broken = all_so _ _ (λ (k : ℕ). gone_given since.wire a b g k) t.broken e.broken;
+          starved = all_so _ _ (λ (k : ℕ). gone_given since.wire a b g k) t.starved e.starved;
           ordered_once = e.ordered_once;
           broken_once = e.broken_once;
           starved_once = e.starved_once;
@@ -351,7 +351,7 @@ module _ {C Data Settings : Type 0} where
       λ key l h. let o = among_some part (at key) l h in
       among_in part (at' key) l (w.others key (inl (λ q. none_some l (sym (w.vacant refl) ∙ ap at (sym q) ∙ o.0))) ∙ o.0) o.1 in
       let found : (key : ℕ) (l : Live C) → parted part at' key ≡ Some l → (l.link ≡ a.given) ⊎ (parted part at key ≡ Some l) =
-      λ key l h. let o = among_some part (at' key) l h in elim (same_or key w.key) [
+      λ key l h. let o = among_some part (at' key) l h in elim (cases_eq key w.key) [
         | inl p ↦ inl (ap (λ (v : Live C). v.link) (some_same (at' w.key) l (record { link = a.given; connection = (w.found refl).0 }) (ap at' (sym p) ∙ o.0) (w.found refl).1.1))
         | inr n ↦ inr (among_in part (at key) l (sym (w.others key (inl n)) ∙ o.0) o.1)
       ] in
@@ -363,7 +363,7 @@ module _ {C Data Settings : Type 0} where
         ]) ∙ g.others k (λ q. absurd (omega (arith, below, q)));
         door = inr (inl (m, more));
         moved = λ q. inl more;
-        still = λ q. absurd (is_not y.moved m q);
+        still = λ q. absurd (not_both_ways y.moved m q);
         ended = λ q. let o = s.ended (omega (arith, q, e)) in (
           o.1.link,
           o.3,

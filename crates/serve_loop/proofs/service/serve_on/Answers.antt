@@ -1,9 +1,10 @@
 -- Each turn is one more, with what follows it.
 use Rattle.std.proofs.Common.{refl, ◌∙◌, ap, arith}
 use Rattle.std.proofs.lemmas.Result.{err_from_is_err_and}
+use Rattle.connections.proofs.Histories.{some_history}
 use Rattle.serve_loop.proofs.ServeLemmas.{serves_none, serves_turn, serves_follow, serves_failed, serves_carries, serves_fault, less_if, first_if, zero_if}
 use Rattle.serve_loop.proofs.CallLemmas.{alone_none, alone_then}
-use Rattle.serve_loop.proofs.ServeLemmas.{some_history, begins_at}
+use Rattle.serve_loop.proofs.ServeLemmas.{begins_at}
 use Rattle.serve_loop.proofs.ServiceLemmas.{so_far_none, so_far_more, links_after, count_after, takes_turn, serves_turns, fails_turn, rose_from, wire_from, fault_as}
 use Rattle.serve_loop.proofs.GreetLemmas.{between_same, comes_after, follows_between, follows_count, follows_turns, fails_after, failed_carries}
 use Rattle.serve_loop.proofs.AskedLemmas.{asked_more, asked_none, asks_once, failed_asks, none_asked, none_given}
