@@ -1,17 +1,14 @@
 -- What a request asks for, and its answer.
-use Rattle.std.proofs.Common.{◌≡◌, ℕ, zero, suc, ◌+◌, ◌-◌, ◌*◌, ◌/◌, ◌^◌, ◌<◌, ◌≤◌, max, Bool, true, false, List, [], ◌∷◌, length, Option, Some, None, refl, ap, ap₂, sym, subst, ◌∙◌, arith, if◌then◌else◌}
+use Rattle.std.proofs.Common.{◌≡◌, ℕ, zero, suc, ◌+◌, ◌-◌, ◌*◌, ◌/◌, ◌^◌, ◌<◌, ◌≤◌, max, Bool, true, false, List, [], length, Option, Some, None, refl, ap, ap₂, sym, subst, ◌∙◌, arith, if◌then◌else◌}
 use Rattle.std.specs.Prelude.{bytes_eq, not, nat_le, unwrap_or, is_some, IfSome, ◌&&◌}
-use Rattle.std.specs.List.{filter}
 use Rattle.std.proofs.Math.Nat.{div-le_of_le-mul, le-mul_of_pos_right}
-use Rattle.std.specs.declared.cmp.Ordering.{Ordering}
-use Rattle.std.specs.declared.cmp.Ordering.TheVariants.{Less, Equal, Greater}
 use Rattle.std.proofs.lemmas.Bool.{true≢false}
 use Rattle.form_urlencoded.specs.Form.{raw_pairs}
 use Rattle.rdf_terms.specs.declared.term.Triple.{Triple}
 use Rattle.rdf_terms.specs.declared.slots.Slots.{Slots}
-use Rattle.rdf_terms.specs.Slots.{matches, order_of}
-use Rattle.rdf_terms.specs.Fragments.{fragment, last_page_of, put, put_by, sorted}
-use Rattle.rdf_terms.specs.Selections.{Selection, matches_one, restricted, selected, selected_last}
+use Rattle.rdf_terms.specs.Fragments.{last_page_of}
+use Rattle.rdf_terms.specs.Selections.{Selection, selected, selected_last}
+use Rattle.rdf_terms.proofs.Selected.{selected_length}
 use Rattle.template_fill.specs.ReadAddress.{path_of, query_of}
 use Rattle.template_fill.specs.Forms.{HasNoBlank}
 use Rattle.template_fill.specs.HttpAnswer.{NQuads, refusal}
@@ -60,38 +57,6 @@ numbered_answer server p slots rows k version is some read page =
 
 -- ---- no more triples are selected than there are
 
-put_few : (o : Ordering) (x y : Triple) (ys more : List Triple) → length more ≤ suc (length ys) → length (put_by o x y ys more) ≤ suc (suc (length ys))
-put_few Less x y ys more h = omega arith
-put_few Equal x y ys more h = omega arith
-put_few Greater x y ys more h = omega (arith, h)
-
-one_more : (order : Triple → Triple → Ordering) (x : Triple) (ys : List Triple) → length (put order x ys) ≤ suc (length ys)
-one_more order x [] = omega arith
-one_more order x (y ∷ ys) = put_few (order x y) x y ys (put order x ys) (one_more order x ys)
-
-sorted_few : (order : Triple → Triple → Ordering) (xs : List Triple) → length (sorted order xs) ≤ length xs
-sorted_few order [] = omega arith
-sorted_few order (x ∷ xs) = omega (arith, one_more order x (sorted order xs), sorted_few order xs)
-
-kept_if : (b : Bool) (x : Triple) (xs : List Triple) (n : ℕ) → length xs ≤ n → length (if b then x ∷ xs else xs) ≤ suc n
-kept_if true x xs n h = omega (arith, h)
-kept_if false x xs n h = omega (arith, h)
-
-filter_few : (p : Triple → Bool) (xs : List Triple) → length (filter p xs) ≤ length xs
-filter_few p [] = omega arith
-filter_few p (x ∷ xs) = kept_if (p x) x (filter p xs) (length xs) (filter_few p xs)
-
-fragment_few : (triples : List Triple) (slots : Slots) → length (fragment triples slots) ≤ length triples
-unfolding fragment
-fragment_few triples slots = omega (arith, sorted_few (order_of slots) (filter (matches slots) triples), filter_few (matches slots) triples)
-
-restricted_few : (rows : List Slots) (triples : List Triple) → length (restricted rows triples) ≤ length triples
-restricted_few [] triples = omega arith
-restricted_few (row ∷ rows) triples = filter_few (matches_one (row ∷ rows)) triples
-
-selected_few : (triples : List Triple) (s : Selection) → length (selected triples s) ≤ length triples
-selected_few triples s = omega (arith, restricted_few s.rows (fragment triples s.slots), fragment_few triples s.slots)
-
 bounded : (count size k : ℕ) → 1 ≤ size → 1 ≤ k → count ≤ k → count + (size - 1) ≤ size * k
 bounded count zero k h some within = absurd (omega (arith, h))
 bounded count (suc m) k h some within = omega (arith, within, le-mul_of_pos_right {m = k} m some)
@@ -103,7 +68,7 @@ count_bound count size some =
     omega (arith, q)
 
 past_all : (triples : List Triple) (s : Selection) (size n : ℕ) → 1 ≤ size → length triples < 2 ^ 64 → 2 ^ 64 ≤ n → nat_le n (selected_last triples s size) ≡ false
-past_all triples s size n some fits big = not_within n (selected_last triples s size) (omega (arith, count_bound (length (selected triples s)) size some, selected_few triples s, fits, big))
+past_all triples s size n some fits big = not_within n (selected_last triples s size) (omega (arith, count_bound (length (selected triples s)) size some, selected_length triples s, fits, big))
   where
     not_within : (m n : ℕ) → n < m → nat_le m n ≡ false
     not_within m n h = grind (arith, h)

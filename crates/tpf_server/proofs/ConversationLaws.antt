@@ -8,8 +8,10 @@ use Rattle.std.proofs.lemmas.Slice.Zip.{AllZip-long}
 use Rattle.rdf_terms.specs.declared.term.Triple.{Triple}
 use Rattle.rdf_terms.specs.declared.term.Quad.{Quad}
 use Rattle.rdf_terms.specs.Canon.{canonical_line}
-use Rattle.tpf_base.specs.HttpHeads.{Request, Verdict, Accepted, Incomplete, next_request, blank_length, least_below, ends_empty}
+use Rattle.tpf_base.specs.declared.limits.TheConstants.{ENOUGH_PENDING}
+use Rattle.tpf_base.specs.HttpHeads.{Request, Verdict, Accepted}
 use Rattle.tpf_base.specs.HttpConnection.{heads_of}
+use Rattle.tpf_base.proofs.Heads.{no_request}
 use Rattle.http_wire.specs.Requests.{Held, fed, fed_to, holding}
 use Rattle.template_fill.specs.Metadata.{Config}
 use Rattle.template_fill.specs.Bodies.{in_default_graph}
@@ -45,10 +47,6 @@ use Rattle.tpf_server.proofs.HeadsLaws.{ended_on, left_heads, reads_on, reload_e
 use Rattle.tpf_server.proofs.MarkLaws.{AreAt, are_served, marked_before, marks_behind, numbers_append, numbers_front, plain_none, served_at, served_marked}
 
 -- ---- at the beginning
-
-no_request : next_request [] ≡ Incomplete
-unfolding next_request blank_length least_below ends_empty
-no_request = refl
 
 nothing_owed : (config : Config) → debt_text config Nothing [] ≡ []
 unfolding debt_text rest_text
@@ -369,13 +367,13 @@ reloads server outcome unread rest new_rest before after pending starved last ol
 
 makes_at : (config : Config) (unread : List ℕ) (rest new_rest : Rest) (before after : List Queued) (bytes made : List ℕ) (given : ℕ) (reading : Reading) (starved : Bool) → given ≤ length bytes → starved ≡ false
     → Fills (debt_text config rest before) (debt_text config new_rest after) given bytes made
-    → (65536 ≤ length made - given) ⊎ (debt_left new_rest after ≡ false)
+    → (ENOUGH_PENDING ≤ length made - given) ⊎ (debt_left new_rest after ≡ false)
     → Makes config (record { unread = unread; reading = reading; rest = rest; waiting = before; pending = drop given bytes; starved = starved }) (record { unread = unread; reading = reading; rest = new_rest; waiting = after; pending = drop given made; starved = starved })
 makes_at config unread rest new_rest before after bytes made given reading starved within fed fills enough = record {
   part = fills.part;
   owed = fills.owed;
   pending = ap (drop given) fills.made ∙ drop_front given bytes fills.part within;
-  enough = elim enough as (λ e. (65536 ≤ length (drop given made)) ⊎ ((starved || debt_left new_rest after) ≡ false)) [ inl h ↦ inl (omega (arith, h, length-drop given made)) | inr h ↦ inr (ap (λ (b : Bool). b || debt_left new_rest after) fed ∙ h) ];
+  enough = elim enough as (λ e. (ENOUGH_PENDING ≤ length (drop given made)) ⊎ ((starved || debt_left new_rest after) ≡ false)) [ inl h ↦ inl (omega (arith, h, length-drop given made)) | inr h ↦ inr (ap (λ (b : Bool). b || debt_left new_rest after) fed ∙ h) ];
   unread = refl;
   reading = refl;
   starved = fed;
@@ -389,7 +387,7 @@ makes_at config unread rest new_rest before after bytes made given reading starv
 pub makes : (config : Config) (unread : List ℕ) (rest new_rest : Rest) (before after : List Queued) (bytes made : List ℕ) (given : ℕ) (reading : Reading) (starved : Bool) (old : Conversation)
     → record { unread = unread; reading = reading; rest = rest; waiting = before; pending = drop given bytes; starved = starved } ≡ old → given ≤ length bytes → old.starved ≡ false
     → Fills (debt_text config rest before) (debt_text config new_rest after) given bytes made
-    → (65536 ≤ length made - given) ⊎ (debt_left new_rest after ≡ false)
+    → (ENOUGH_PENDING ≤ length made - given) ⊎ (debt_left new_rest after ≡ false)
     → Makes config old (record { unread = unread; reading = reading; rest = new_rest; waiting = after; pending = drop given made; starved = starved })
 makes config unread rest new_rest before after bytes made given reading starved old same within fed fills enough =
     subst (λ (c : Conversation). Makes config c (record { unread = unread; reading = reading; rest = new_rest; waiting = after; pending = drop given made; starved = starved })) same

@@ -5,8 +5,10 @@ use Rattle.std.specs.List.{AllByRecursion}
 use Rattle.std.proofs.lemmas.Bool.{or_parts, true≢false}
 use Rattle.list_laws.specs.Begins.{Begins}
 use Rattle.list_laws.proofs.Begins.{cut_back, same_begins}
+use Rattle.tpf_base.specs.declared.limits.TheConstants.{ENOUGH_PENDING}
 use Rattle.template_fill.specs.Metadata.{Config}
 use Rattle.template_fill.specs.HttpAnswer.{MediaType, answer_text, head_text}
+use Rattle.tpf_server.specs.declared.limits.TheConstants.{LONGEST_PART, MOST_PENDING}
 use Rattle.tpf_server.specs.declared.asked.Queued.{Queued}
 use Rattle.tpf_server.specs.declared.pages.Opened.{Opened}
 use Rattle.tpf_server.specs.declared.rest.Rest.{Rest}
@@ -42,7 +44,7 @@ unfolding head_text
 long_head status media body_length closes = omega arith
 
 pub begun : (config : Config) (queued : Queued) (o : Opened) (rest : Rest) (before after : List ℕ) → Opens config queued.asking o → after ≡ before ++ head_text (code o.status) (media_of o.media) o.length queued.closes
-    → length (head_text (code o.status) (media_of o.media) o.length queued.closes) ≤ 16384
+    → length (head_text (code o.status) (media_of o.media) o.length queued.closes) ≤ LONGEST_PART
     → rest ≡ (if queued.without_body then Nothing else o.body) → IsGiven (queued_text config queued) (rest_text rest) before after
 unfolding answer_text
 begun config queued o rest before after opens appended few is = record {
@@ -106,7 +108,7 @@ nothing_waits rest waiting none left empty = true≢false (sym left ∙ ap₂ (�
 pub fills_none : (owed : List ℕ) (taken : ℕ) (before : List ℕ) → Fills owed owed taken before before
 fills_none owed taken before = record { part = []; owed = refl; made = sym (append-nil before); few = λ h. h }
 
-pub fills_more : (owed left new : List ℕ) (taken : ℕ) (before made after : List ℕ) → taken ≤ length before → length made - taken < 65536 → Fills owed left taken before made → IsGiven left new made after → Fills owed new taken before after
+pub fills_more : (owed left new : List ℕ) (taken : ℕ) (before made after : List ℕ) → taken ≤ length before → length made - taken < ENOUGH_PENDING → Fills owed left taken before made → IsGiven left new made after → Fills owed new taken before after
 fills_more owed left new taken before made after within few fills given = record {
   part = fills.part ++ given.part;
   owed = fills.owed ∙ ap (λ (l : List ℕ). fills.part ++ l) given.text ∙ sym (append_assoc fills.part given.part new);
@@ -155,7 +157,7 @@ back_begins (Ok x) before made after ok err front = subst (Begins before) (sym o
 back_begins (Err e) before made after ok err front = same_begins before after err
 
 pub back_few : {T E : Type 0} (r : Result T E) (debt left : List ℕ) (taken : ℕ) (before after : List ℕ) → OnOk r (Fills debt left taken before after) → OnErr r (after ≡ before)
-    → length before - taken ≤ 81919 → length after - taken ≤ 81919
+    → length before - taken ≤ MOST_PENDING → length after - taken ≤ MOST_PENDING
 back_few (Ok x) debt left taken before after fills err few = fills.few few
 back_few (Err e) debt left taken before after fills err few = omega (arith, few, ap (λ (l : List ℕ). length l) err)
 

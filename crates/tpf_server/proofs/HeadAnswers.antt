@@ -18,9 +18,9 @@ use Rattle.template_fill.specs.HttpAnswer.{Answer, NQuads, answer_text, refusal}
 use Rattle.tpf_base.specs.Marks.{Served}
 use Rattle.template_fill.specs.Answers.{Question, answer_if, answer_to, is_path_of_reload, is_read, is_reload, page_answer, question_of, reload_answer, version_answer}
 use Rattle.template_fill.proofs.Histories.{last_served}
-use Rattle.tpf_base.specs.HttpConnection.{after_taken, heads_from, heads_of, last_head, with_head}
+use Rattle.tpf_base.specs.HttpConnection.{heads_of, last_head, with_head}
 use Rattle.template_fill.specs.Responses.{answering, head_answer}
-use Rattle.http_wire.proofs.ConnectionLemmas.{heads_read}
+use Rattle.http_wire.proofs.ConnectionLemmas.{heads_at}
 use Rattle.tpf_server.specs.declared.asked.Asking.TheVariants as asks
 use Rattle.tpf_server.specs.declared.asked.Queued.{Queued}
 use Rattle.tpf_server.specs.Statuses.{code}
@@ -28,7 +28,6 @@ use Rattle.tpf_server.specs.Serving.{Serving, IsHistoryOf, data_of}
 use Rattle.tpf_server.specs.Asked.{IsAsked, answer_at, answer_by, answer_for, answer_for_target, answer_of, body_at, is_head, is_other, page_answer_at, refused_with}
 use Rattle.tpf_server.specs.Owed.{queued_text}
 use Rattle.tpf_server.specs.Read.{IsAnswered, asks_for}
-use Rattle.triple_table.proofs.Bytes.{bytes_eq_same}
 
 -- ---- a request over a history whose last version is served
 
@@ -158,9 +157,6 @@ refused_text_is history server bytes status is =
     ap (λ (n : ℕ). answer_text (refusal n) false true) (fault_code status (subst FaultOf is (next_fault bytes)))
 
 -- ---- one head
-
-pub heads_at : (bytes : List ℕ) (next : NextRequest) → next_request bytes ≡ next → heads_of bytes ≡ heads_from bytes next (heads_of (after_taken bytes next))
-heads_at bytes next is = heads_read bytes ∙ ap (λ (n : NextRequest). heads_from bytes n (heads_of (after_taken bytes n))) is
 
 pub refused_reads : (server : Serving) (bytes : List ℕ) (status : ℕ) (before after : List Queued) (held : Held) → next_request bytes ≡ Refused status → after ≡ before ++ refusing_with status ∷ []
     → IsAnswered server bytes before after true held

@@ -7,6 +7,7 @@ use Rattle.tpf_base.specs.HttpText.{answer_head, line_end}
 use Rattle.template_fill.specs.HttpAnswer.{MediaType, NQuads, answer_fields, head_text, phrase}
 use Rattle.http_ends.specs.Answers.{IsStatus}
 use Rattle.http_ends.proofs.Answers.{heads_are_short}
+use Rattle.tpf_server.specs.declared.limits.TheConstants.{LONGEST_PART}
 use Rattle.tpf_server.specs.declared.status.Status.{Status}
 use Rattle.tpf_server.specs.declared.status.Status.TheVariants.{Success, BadRequest, NotFound, MethodNotAllowed, HeaderFieldsTooLarge, InternalServerError, ServiceUnavailable}
 use Rattle.tpf_server.specs.declared.head.MediaType as medias
@@ -83,7 +84,7 @@ is_status ServiceUnavailable = inr (inr (inr (inr (inr (inr refl)))))
 in_digits : (n : ℕ) → n < 2 ^ 128 → n < 10 ^ 39
 in_digits n fits = omega arith
 
-pub short_head : (status : Status) (media : MediaType) (n : ℕ) (closes : Bool) → n < 2 ^ 128 → length (head_text (code status) media n closes) ≤ 16384
+pub short_head : (status : Status) (media : MediaType) (n : ℕ) (closes : Bool) → n < 2 ^ 128 → length (head_text (code status) media n closes) ≤ LONGEST_PART
 short_head status media n closes fits =
     let few = heads_are_short (code status) media n 39 closes (is_status status) (omega arith) (in_digits n fits) in
     omega (arith, few)

@@ -2,14 +2,13 @@
 use Rattle.std.proofs.Common.{◌≡◌, ℕ, zero, suc, ◌≤◌, Bool, true, false, List, [], ◌∷◌, ◌++◌, drop, length, refl, ap, sym, subst, ◌∙◌, arith, append_assoc, append-nil, if◌then◌else◌}
 use Rattle.tpf_base.specs.HttpHeads.{Verdict, Accepted, Taken}
 use Rattle.tpf_base.specs.HttpConnection.{Heads, heads_of, last_head, with_head, with_more}
-use Rattle.http_wire.proofs.ConnectionLemmas.{more_heads}
+use Rattle.http_wire.proofs.ConnectionLemmas.{heads_at, more_heads}
 use Rattle.http_wire.proofs.StayLemmas.{taken_stays, taken_within}
 use Rattle.template_fill.specs.Metadata.{Config}
 use Rattle.tpf_server.specs.declared.reading.Reading.{Reading}
 use Rattle.tpf_server.specs.declared.reading.Reading.TheVariants.{Reads, Waits, Ended}
 use Rattle.tpf_server.specs.Reading.{is_ended}
 use Rattle.tpf_server.specs.Read.{IsReload, Stands, heads_then}
-use Rattle.tpf_server.proofs.HeadAnswers.{heads_at}
 use Rattle.tpf_server.proofs.Readings.{then_head}
 
 then_more_at : (first heads : List Verdict) (unread piece : List ℕ) (closed : Bool)

@@ -4,8 +4,10 @@ use Rattle.std.specs.List.{AllByRecursion}
 use Rattle.std.proofs.lemmas.Bool.{true≢false}
 use Rattle.list_laws.specs.Begins.{Begins}
 use Rattle.list_laws.proofs.Each.{all_append}
+use Rattle.tpf_base.specs.declared.limits.TheConstants.{ENOUGH_PENDING}
 use Rattle.http_wire.specs.Requests.{Held, holding}
 use Rattle.template_fill.specs.Metadata.{Config}
+use Rattle.tpf_server.specs.declared.limits.TheConstants.{MOST_PENDING}
 use Rattle.tpf_server.specs.declared.asked.Queued.{Queued}
 use Rattle.tpf_server.specs.declared.outcome.Reloaded.{Reloaded}
 use Rattle.tpf_server.specs.declared.outcome.Reloaded.TheVariants as outcomes
@@ -80,7 +82,7 @@ reload_fits server outcome last bytes rest new before after reading held fits sa
 pub makes_kept : (config own : Config) (unread : List ℕ) (rest made_rest new : Rest) (before made_waiting after : List Queued) (bytes made : List ℕ) (given : ℕ) (reading : Reading) (starved : Bool) (old : Conversation)
     → own ≡ config → conversation unread reading rest before (drop given bytes) starved ≡ old → given + given ≤ length bytes → old.starved ≡ false
     → Fills (debt_text own rest before) (debt_text own made_rest made_waiting) given bytes made
-    → (65536 ≤ length made - given) ⊎ (debt_left made_rest made_waiting ≡ false)
+    → (ENOUGH_PENDING ≤ length made - given) ⊎ (debt_left made_rest made_waiting ≡ false)
     → new ≡ made_rest → after ≡ made_waiting
     → Makes config old (conversation unread reading new after (drop given made) starved)
 makes_kept config own unread rest made_rest new before made_waiting after bytes made given reading starved old is same half fed fills enough r w =
@@ -90,10 +92,10 @@ makes_kept config own unread rest made_rest new before made_waiting after bytes 
     (makes own unread rest made_rest before made_waiting bytes made given reading starved old same (omega (arith, half)) fed fills enough)))
 
 -- at most as many bytes are pending where some were taken
-pub kept_few : (left given : ℕ) (new old : List ℕ) → length new - left ≡ length old - given → length old - given ≤ 81919 → length new - left ≤ 81919
+pub kept_few : (left given : ℕ) (new old : List ℕ) → length new - left ≡ length old - given → length old - given ≤ MOST_PENDING → length new - left ≤ MOST_PENDING
 kept_few left given new old same few = omega (arith, same, few)
 
-pub few_pending : (given : ℕ) (bytes : List ℕ) (pending : List ℕ) → drop given bytes ≡ pending → length bytes - given ≤ 81919 → length pending ≤ 81919
+pub few_pending : (given : ℕ) (bytes : List ℕ) (pending : List ℕ) → drop given bytes ≡ pending → length bytes - given ≤ MOST_PENDING → length pending ≤ MOST_PENDING
 few_pending given bytes pending is few = omega (arith, few, ap (λ (l : List ℕ). length l) is, length-drop given bytes)
 
 -- as many bytes are left where the same ones are
@@ -101,12 +103,12 @@ pub same_left : (left given : ℕ) (new old : List ℕ) → drop left new ≡ dr
 same_left left given new old same = omega (arith, ap (λ (l : List ℕ). length l) same, length-drop left new, length-drop given old)
 
 -- a front of them was kept
-pub cut_few : (given pending : ℕ) (bytes cut : List ℕ) → cut ≡ take (given + pending) bytes → length bytes - given ≤ 81919 → length cut - given ≤ 81919
+pub cut_few : (given pending : ℕ) (bytes cut : List ℕ) → cut ≡ take (given + pending) bytes → length bytes - given ≤ MOST_PENDING → length cut - given ≤ MOST_PENDING
 cut_few given pending bytes cut is few = omega (arith, few, ap (λ (l : List ℕ). length l) is, length-take (given + pending) bytes)
 
-pub few_taken : (n : ℕ) (old : List ℕ) (new : List ℕ) → new ≡ take n old → length old ≤ 81919 → length new ≤ 81919
+pub few_taken : (n : ℕ) (old : List ℕ) (new : List ℕ) → new ≡ take n old → length old ≤ MOST_PENDING → length new ≤ MOST_PENDING
 few_taken n old new is few = omega (arith, few, ap (λ (l : List ℕ). length l) is, length-take n old)
 
 pub few_view : (unread : List ℕ) (reading : Reading) (rest : Rest) (waiting : List Queued) (given : ℕ) (bytes : List ℕ) (starved : Bool) (old : Conversation)
-    → record { unread = unread; reading = reading; rest = rest; waiting = waiting; pending = drop given bytes; starved = starved } ≡ old → length bytes - given ≤ 81919 → length old.pending ≤ 81919
+    → record { unread = unread; reading = reading; rest = rest; waiting = waiting; pending = drop given bytes; starved = starved } ≡ old → length bytes - given ≤ MOST_PENDING → length old.pending ≤ MOST_PENDING
 few_view unread reading rest waiting given bytes starved old same few = few_pending given bytes old.pending (ap (λ (c : Conversation). c.pending) same) few

@@ -1,19 +1,16 @@
 -- Numbers of pages.
-use Rattle.std.proofs.Common.{◌≡◌, ℕ, ◌^◌, ◌<◌, ◌≤◌, Bool, true, List, [], ◌∷◌, length, Some, Err, refl, ap, ap₂, ◌∙◌, arith, le-leb}
+use Rattle.std.proofs.Common.{◌≡◌, ℕ, ◌^◌, ◌<◌, ◌≤◌, Bool, true, List, [], ◌∷◌, length, Some, Err, refl, ap₂, ◌∙◌, arith, le-leb}
 use Rattle.std.specs.Prelude.{◌&&◌, nat_le}
 use Rattle.std.specs.List.{list_all}
 use Rattle.std.specs.Char.{is_ascii_digit}
 use Rattle.std.specs.Str.{all_ascii_digits}
 use Rattle.std.specs.Str.Parse.{digits_value, ParsesUnsigned}
 use Rattle.std.proofs.lemmas.Str.Parse.{tells_all_ascii_digits, numerals_by_value, parse_digits}
+use Rattle.list_laws.proofs.Bytes.{digits_are}
 use Rattle.template_fill.specs.ReadAddress.{when}
 use Rattle.template_fill.specs.Answers.{page_number}
 use Rattle.tpf_server.specs.declared.parameters.PageNumber.TheVariants.{Beyond}
 use Rattle.tpf_server.specs.Parameters.{IsPage}
-
-digits_are : (text : List ℕ) → all_ascii_digits text ≡ list_all is_ascii_digit text
-digits_are [] = refl
-digits_are (b ∷ text) = ap (λ (t : Bool). is_ascii_digit b && t) (digits_are text)
 
 at_least : (n m : ℕ) → ((n < m) → ⊥) → m ≤ n
 at_least n m h = omega (arith, h)

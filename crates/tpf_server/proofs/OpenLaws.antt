@@ -19,6 +19,7 @@ use Rattle.tpf_base.specs.Decimals.{decimal_text}
 use Rattle.tpf_base.proofs.DecimalTexts.{decimal_text-short}
 use Rattle.template_fill.specs.HttpAnswer as definitions
 use Rattle.template_fill.specs.HttpAnswer.{Answer, refusal}
+use Rattle.tpf_server.specs.declared.limits.TheConstants.{LONGEST_PART}
 use Rattle.tpf_server.specs.declared.status.Status.{Status}
 use Rattle.tpf_server.specs.declared.status.Status.TheVariants.{Success, NotFound}
 use Rattle.tpf_server.specs.declared.head.MediaType.TheVariants.{PlainText}
@@ -113,7 +114,7 @@ long_line : (number : ℕ) → 0 < length (version_line number)
 unfolding version_line
 long_line number = omega (arith, length-append (codes "version ") (decimal_text number ++ 10 ∷ []))
 
-pub short_version : (number : ℕ) → number < 2 ^ 64 → length (version_line number) ≤ 16384
+pub short_version : (number : ℕ) → number < 2 ^ 64 → length (version_line number) ≤ LONGEST_PART
 unfolding version_line
 short_version number fits =
     let few = decimal_text-short number 20 (omega arith) (in_digits number fits) in
@@ -122,12 +123,12 @@ short_version number fits =
     in_digits : (n : ℕ) → n < 2 ^ 64 → n < 10 ^ 20
     in_digits n fits = omega arith
 
-version_opened : (config : Config) (number : ℕ) (o : Opened) → length (version_line number) ≤ 16384 → o ≡ record { status = Success; media = PlainText; length = length (version_line number); body = rests.Words (version_line number) } → Opens config (Reloaded number) o
+version_opened : (config : Config) (number : ℕ) (o : Opened) → length (version_line number) ≤ LONGEST_PART → o ≡ record { status = Success; media = PlainText; length = length (version_line number); body = rests.Words (version_line number) } → Opens config (Reloaded number) o
 unfolding rest_text answer_of
 version_opened config number o few opened =
     subst (Opens config (Reloaded number)) (sym opened) (record { status = refl; media = refl; length = refl; body = refl; range = (long_line number, few) })
 
-pub opens_version : {E : Type 0} (config : Config) (number : ℕ) (asking : Asking) (r : Result Opened E) → asking ≡ Reloaded number → length (version_line number) ≤ 16384
+pub opens_version : {E : Type 0} (config : Config) (number : ℕ) (asking : Asking) (r : Result Opened E) → asking ≡ Reloaded number → length (version_line number) ≤ LONGEST_PART
     → IfOk r (λ (o : Opened). o ≡ record { status = Success; media = PlainText; length = length (version_line number); body = rests.Words (version_line number) }) → IfOk r (Opens config asking)
 opens_version config number asking (Ok o) is few opened = subst (λ (a : Asking). Opens config a o) (sym is) (version_opened config number o few opened)
 opens_version config number asking (Err e) is few opened = tt

@@ -12,6 +12,7 @@ use Rattle.rdf_terms.specs.Canon.{after_mark, canonical_byte, canonical_form, ca
 use Rattle.hydra_controls.specs.declared.cut.Cut.{Cut}
 use Rattle.hydra_controls.specs.Cuts.{Cuts, cut_behind, cut_of}
 use Rattle.hydra_controls.proofs.CutLaws.{behind_all, behind_append, between, cut_append, nothing_left}
+use Rattle.tpf_server.specs.declared.limits.TheConstants.{LONGEST_PART, PART}
 use Rattle.tpf_server.specs.Given.{IsGiven}
 use Rattle.tpf_server.specs.Lines.{triple_line}
 use Rattle.tpf_server.specs.Parts.{CutsMarks, ended_marks, form_marks, plain_marks, term_marks, triple_marks}
@@ -193,8 +194,8 @@ pub tag_cuts : (a b : Cut) (tag old new : List ℕ) → CutsMarks a b (plain_mar
 tag_cuts a b tag old new h = h
 
 -- of a whole text so many bytes of the source behind the first ones
-pub first_cut : (from : ℕ) (a b : Cut) (marks : List (List ℕ)) (old new : List ℕ) → a ≡ record { skip = from; room = 8192; more = false } → CutsMarks a b marks old new
-    → (b.more ≡ nat_lt 8192 (length marks - from)) × (new ≡ old ++ concat (take 8192 (drop from marks)))
+pub first_cut : (from : ℕ) (a b : Cut) (marks : List (List ℕ)) (old new : List ℕ) → a ≡ record { skip = from; room = PART; more = false } → CutsMarks a b marks old new
+    → (b.more ≡ nat_lt PART (length marks - from)) × (new ≡ old ++ concat (take PART (drop from marks)))
 first_cut from a b marks old new is h =
     let own = subst (λ (x : Cut). CutsMarks x b marks old new) is h in
     (ap (λ (x : Cut). x.more) own.behind, own.appended)
@@ -211,40 +212,40 @@ taken_concat : (n : ℕ) (marks : List (List ℕ)) → concat marks ≡ concat (
 taken_concat n marks = ap concat (sym (take-append-drop n marks)) ∙ concat_more (take n marks) (drop n marks)
 
 -- the size of a part of a source
-part_size : (from : ℕ) (marks : List (List ℕ)) → AreMarks marks → from < length marks → (0 < length (concat (take 8192 (drop from marks)))) × (length (concat (take 8192 (drop from marks))) ≤ 16384)
+part_size : (from : ℕ) (marks : List (List ℕ)) → AreMarks marks → from < length marks → (0 < length (concat (take PART (drop from marks)))) × (length (concat (take PART (drop from marks))) ≤ LONGEST_PART)
 part_size from marks are some =
-    let part = take 8192 (drop from marks) in
-    let all = are_taken 8192 (drop from marks) (are_dropped from marks are) in
-    let size = length-take 8192 (drop from marks) in
+    let part = take PART (drop from marks) in
+    let all = are_taken PART (drop from marks) (are_dropped from marks are) in
+    let size = length-take PART (drop from marks) in
     let left = length-drop from marks in
     (omega (arith, some, size, left, marks_low part all), omega (arith, size, left, marks_high part all))
 
 -- more is left
-pub marks_go_on : (from : ℕ) (marks : List (List ℕ)) (old new : List ℕ) → AreMarks marks → from < length marks → new ≡ old ++ concat (take 8192 (drop from marks))
-    → IsGiven (concat (drop from marks)) (concat (drop (from + 8192) marks)) old new
+pub marks_go_on : (from : ℕ) (marks : List (List ℕ)) (old new : List ℕ) → AreMarks marks → from < length marks → new ≡ old ++ concat (take PART (drop from marks))
+    → IsGiven (concat (drop from marks)) (concat (drop (from + PART) marks)) old new
 marks_go_on from marks old new are some appended = record {
-  part = concat (take 8192 (drop from marks));
-  text = taken_concat 8192 (drop from marks) ∙ ap (λ (l : List (List ℕ)). concat (take 8192 (drop from marks)) ++ concat l) (drop-drop 8192 from marks);
+  part = concat (take PART (drop from marks));
+  text = taken_concat PART (drop from marks) ∙ ap (λ (l : List (List ℕ)). concat (take PART (drop from marks)) ++ concat l) (drop-drop PART from marks);
   appended = appended;
   some = (part_size from marks are some).0;
   few = (part_size from marks are some).1;
 }
 
 -- nothing is left
-pub marks_end : (from : ℕ) (marks : List (List ℕ)) (old new : List ℕ) → AreMarks marks → from < length marks → nat_lt 8192 (length marks - from) ≡ false → new ≡ old ++ concat (take 8192 (drop from marks))
+pub marks_end : (from : ℕ) (marks : List (List ℕ)) (old new : List ℕ) → AreMarks marks → from < length marks → nat_lt PART (length marks - from) ≡ false → new ≡ old ++ concat (take PART (drop from marks))
     → IsGiven (concat (drop from marks)) [] old new
 marks_end from marks old new are some last appended = record {
-  part = concat (take 8192 (drop from marks));
+  part = concat (take PART (drop from marks));
   text =
-      ap concat (sym (all_taken 8192 (drop from marks) (omega (arith, ltb-false 8192 (length marks - from) last, length-drop from marks))))
-      ∙ sym (append-nil (concat (take 8192 (drop from marks))));
+      ap concat (sym (all_taken PART (drop from marks) (omega (arith, ltb-false PART (length marks - from) last, length-drop from marks))))
+      ∙ sym (append-nil (concat (take PART (drop from marks))));
   appended = appended;
   some = (part_size from marks are some).0;
   few = (part_size from marks are some).1;
 }
 
 -- a whole short line
-pub line_given : (t : Triple) (from : ℕ) (old new : List ℕ) → from ≡ 0 → length (triple_line t) ≤ 8192 → new ≡ old ++ triple_line t → IsGiven (concat (drop from (triple_marks t))) [] old new
+pub line_given : (t : Triple) (from : ℕ) (old new : List ℕ) → from ≡ 0 → length (triple_line t) ≤ PART → new ≡ old ++ triple_line t → IsGiven (concat (drop from (triple_marks t))) [] old new
 line_given t from old new none short appended =
     subst (λ (n : ℕ). IsGiven (concat (drop n (triple_marks t))) [] old new) (sym none) (record {
       part = triple_line t;
@@ -255,35 +256,35 @@ line_given t from old new none short appended =
     })
 
 -- a part of a line of the metadata: more is left
-pub line_goes_on : (from : ℕ) (line old new : List ℕ) → from < length line → nat_lt 8192 (length line - from) ≡ true → new ≡ old ++ take 8192 (drop from line) → IsGiven (drop from line) (drop (from + 8192) line) old new
+pub line_goes_on : (from : ℕ) (line old new : List ℕ) → from < length line → nat_lt PART (length line - from) ≡ true → new ≡ old ++ take PART (drop from line) → IsGiven (drop from line) (drop (from + PART) line) old new
 line_goes_on from line old new some more appended = record {
-  part = take 8192 (drop from line);
-  text = sym (take-append-drop 8192 (drop from line)) ∙ ap (λ (l : List ℕ). take 8192 (drop from line) ++ l) (drop-drop 8192 from line);
+  part = take PART (drop from line);
+  text = sym (take-append-drop PART (drop from line)) ∙ ap (λ (l : List ℕ). take PART (drop from line) ++ l) (drop-drop PART from line);
   appended = appended;
-  some = omega (arith, some, length-take 8192 (drop from line), length-drop from line);
-  few = omega (arith, length-take 8192 (drop from line));
+  some = omega (arith, some, length-take PART (drop from line), length-drop from line);
+  few = omega (arith, length-take PART (drop from line));
 }
 
 -- nothing is left
-pub line_ends : (from : ℕ) (line old new : List ℕ) → from < length line → nat_lt 8192 (length line - from) ≡ false → new ≡ old ++ take 8192 (drop from line) → IsGiven (drop from line) [] old new
+pub line_ends : (from : ℕ) (line old new : List ℕ) → from < length line → nat_lt PART (length line - from) ≡ false → new ≡ old ++ take PART (drop from line) → IsGiven (drop from line) [] old new
 line_ends from line old new some last appended = record {
-  part = take 8192 (drop from line);
+  part = take PART (drop from line);
   text =
-      sym (all_taken 8192 (drop from line) (omega (arith, ltb-false 8192 (length line - from) last, length-drop from line)))
-      ∙ sym (append-nil (take 8192 (drop from line)));
+      sym (all_taken PART (drop from line) (omega (arith, ltb-false PART (length line - from) last, length-drop from line)))
+      ∙ sym (append-nil (take PART (drop from line)));
   appended = appended;
-  some = omega (arith, some, length-take 8192 (drop from line), length-drop from line);
-  few = omega (arith, length-take 8192 (drop from line));
+  some = omega (arith, some, length-take PART (drop from line), length-drop from line);
+  few = omega (arith, length-take PART (drop from line));
 }
 
 -- the next place is within the line
-pub within_on : (from n : ℕ) → nat_lt 8192 (n - from) ≡ true → from + 8192 < n
-within_on from n more = omega (arith, ltb-true 8192 (n - from) more)
+pub within_on : (from n : ℕ) → nat_lt PART (n - from) ≡ true → from + PART < n
+within_on from n more = omega (arith, ltb-true PART (n - from) more)
 
 -- the three terms of a line
-pub triple_cuts : (from : ℕ) (a b d e : Cut) (t : Triple) (s p o : Term) (old first second new : List ℕ) → a ≡ record { skip = from; room = 8192; more = false } → s ≡ t.subject → p ≡ t.predicate → o ≡ t.object
+pub triple_cuts : (from : ℕ) (a b d e : Cut) (t : Triple) (s p o : Term) (old first second new : List ℕ) → a ≡ record { skip = from; room = PART; more = false } → s ≡ t.subject → p ≡ t.predicate → o ≡ t.object
     → CutsMarks a b (ended_marks s (32 ∷ [])) old first → CutsMarks b d (ended_marks p (32 ∷ [])) first second → CutsMarks d e (ended_marks o (32 ∷ 46 ∷ 10 ∷ [])) second new
-    → (e.more ≡ nat_lt 8192 (length (triple_marks t) - from)) × (new ≡ old ++ concat (take 8192 (drop from (triple_marks t))))
+    → (e.more ≡ nat_lt PART (length (triple_marks t) - from)) × (new ≡ old ++ concat (take PART (drop from (triple_marks t))))
 unfolding triple_marks
 triple_cuts from a b d e t s p o old first second new is of_s of_p of_o x y z =
     first_cut from a e (ended_marks t.subject (32 ∷ []) ++ (ended_marks t.predicate (32 ∷ []) ++ ended_marks t.object (32 ∷ 46 ∷ 10 ∷ []))) old new is

@@ -14,6 +14,7 @@ use Rattle.triple_table.specs.declared.ids.Range.{Range}
 use Rattle.triple_table.specs.Rows.{id_triple_of}
 use Rattle.triple_table.specs.Stored.{Stored, IsIdTriple, held_terms, listed, rows_in, triple_at}
 use Rattle.template_fill.specs.HttpAnswer.{refusal}
+use Rattle.tpf_server.specs.declared.limits.TheConstants.{LONGEST_PART}
 use Rattle.tpf_server.specs.declared.parts.Begun.{Begun}
 use Rattle.tpf_server.specs.declared.parts.Begun.TheVariants as begins
 use Rattle.tpf_server.specs.declared.status.Status.{Status}
@@ -317,7 +318,7 @@ more_again room left old mid new before one after is first more =
       few = omega (arith, is, size, first.few, more.few, length-append first.part more.part);
     }
 
-pub given_more : (room : ℕ) (old mid new before one after : List ℕ) → room ≡ 16384 - (length one - length before) → IsGiven old mid before one → IsMore room mid new one after → IsGiven old new before after
+pub given_more : (room : ℕ) (old mid new before one after : List ℕ) → room ≡ LONGEST_PART - (length one - length before) → IsGiven old mid before one → IsMore room mid new one after → IsGiven old new before after
 given_more room old mid new before one after is first more =
     let size = ap (λ (l : List ℕ). length l) first.appended ∙ length-append before first.part in
     record {
@@ -334,8 +335,8 @@ more_size room old new before after more =
     let size = ap (λ (l : List ℕ). length l) more.appended ∙ length-append before more.part in
     (omega (arith, size), omega (arith, size, more.few))
 
-pub given_size : (old new before after : List ℕ) → IsGiven old new before after → (length before ≤ length after) × (length after - length before ≤ 16384)
-given_size old new before after given = more_size 16384 old new before after (record { part = given.part; text = given.text; appended = given.appended; few = given.few })
+pub given_size : (old new before after : List ℕ) → IsGiven old new before after → (length before ≤ length after) × (length after - length before ≤ LONGEST_PART)
+given_size old new before after given = more_size LONGEST_PART old new before after (record { part = given.part; text = given.text; appended = given.appended; few = given.few })
 
 module _ (s : Stored) (old new : PageTriples) (ids : IdTriple) (first : triples_of s old ≡ triple_at (held_terms s) ids ∷ triples_of s (after_first old)) (is : new ≡ after_first old) where
   first_line_is : lines_text s old ≡ triple_line (triple_at (held_terms s) ids) ++ lines_text s new
@@ -374,11 +375,11 @@ more_lines s held quads b triples new i p same of is room before after more =
     }
 
 pub short_metadata_is : (s : Stored) (quads : List Quad) (b : Begun) (triples : PageTriples) (i n : ℕ) (p : PageLines) → lines_at s quads b triples i ≡ p → i ≡ 0 → nat_lt 0 (length p.begun) ≡ false → triples_left p.triples ≡ false
-    → n ≡ length (concat (quad_lines quads)) → n ≤ 16384 → IsShortMetadata p
+    → n ≡ length (concat (quad_lines quads)) → n ≤ LONGEST_PART → IsShortMetadata p
 short_metadata_is s quads b triples i n p same first none past size fits = record {
   begun = no_bytes p.begun none;
   past = past;
-  few = subst (λ (x : PageLines). length (concat (quad_lines x.quads)) ≤ 16384) same (subst (λ (k : ℕ). length (concat (quad_lines (drop k quads))) ≤ 16384) (sym first) (omega (arith, size, fits)));
+  few = subst (λ (x : PageLines). length (concat (quad_lines x.quads)) ≤ LONGEST_PART) same (subst (λ (k : ℕ). length (concat (quad_lines (drop k quads))) ≤ LONGEST_PART) (sym first) (omega (arith, size, fits)));
 }
 
 pub lines_some : (quads : List Quad) → 0 < length quads → 0 < length (concat (quad_lines quads))
@@ -413,7 +414,7 @@ given_metadata s quads b triples i n p same short left size before after appende
 
 -- ---- bodies
 
-whole_given : (text new before after : List ℕ) → new ≡ [] → 0 < length text → length text ≤ 16384 → after ≡ before ++ text → IsGiven text new before after
+whole_given : (text new before after : List ℕ) → new ≡ [] → 0 < length text → length text ≤ LONGEST_PART → after ≡ before ++ text → IsGiven text new before after
 whole_given text new before after none some few appended = record {
   part = text;
   text = sym (append-nil text) ∙ ap (λ (l : List ℕ). text ++ l) (sym none);

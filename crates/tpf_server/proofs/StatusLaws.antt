@@ -2,6 +2,7 @@
 use Rattle.std.proofs.Common.{◌≡◌, ℕ, ◌<◌, ◌≤◌, List, length, refl, subst, arith}
 use Rattle.tpf_base.specs.Decimals.{digits_up_to, decimal_text}
 use Rattle.template_fill.specs.HttpAnswer.{phrase, refusal}
+use Rattle.tpf_server.specs.declared.limits.TheConstants.{LONGEST_PART}
 use Rattle.tpf_server.specs.declared.status.Status.{Status}
 use Rattle.tpf_server.specs.declared.status.Status.TheVariants.{Success, BadRequest, NotFound, MethodNotAllowed, HeaderFieldsTooLarge, InternalServerError, ServiceUnavailable}
 use Rattle.tpf_server.specs.Statuses.{body_text, code}
@@ -16,7 +17,7 @@ body_is HeaderFieldsTooLarge = refl
 body_is InternalServerError = refl
 body_is ServiceUnavailable = refl
 
-text_size : (status : Status) → (0 < length (body_text status)) × (length (body_text status) ≤ 16384)
+text_size : (status : Status) → (0 < length (body_text status)) × (length (body_text status) ≤ LONGEST_PART)
 unfolding body_text
 text_size Success = (omega arith, omega arith)
 text_size BadRequest = (omega arith, omega arith)
@@ -29,5 +30,5 @@ text_size ServiceUnavailable = (omega arith, omega arith)
 pub body_some : (status : Status) → 0 < length (refusal (code status)).body
 body_some status = subst (λ (l : List ℕ). 0 < length l) (body_is status) (text_size status).0
 
-pub body_few : (status : Status) → length (refusal (code status)).body ≤ 16384
-body_few status = subst (λ (l : List ℕ). length l ≤ 16384) (body_is status) (text_size status).1
+pub body_few : (status : Status) → length (refusal (code status)).body ≤ LONGEST_PART
+body_few status = subst (λ (l : List ℕ). length l ≤ LONGEST_PART) (body_is status) (text_size status).1

@@ -2,6 +2,7 @@
 use Rattle.std.specs.Prelude.{ℕ, ◌≡◌, ◌⊎◌, ◌≤◌, ◌||◌, Bool, true, false, List, [], ◌∷◌, ◌++◌, length}
 use Rattle.std.specs.List.{AllByRecursion}
 use Rattle.rdf_terms.specs.declared.term.Triple.{Triple}
+use Rattle.tpf_base.specs.declared.limits.TheConstants.{ENOUGH_PENDING}
 use Rattle.tpf_base.specs.HttpHeads.{Verdict}
 use Rattle.tpf_base.specs.HttpConnection.{heads_of}
 use Rattle.template_fill.specs.Metadata.{Config}
@@ -87,12 +88,12 @@ pub record Reloads (server : Serving) (outcome : Reloaded) (old new : Conversati
       → Answers history server.config fed taken marks old
       → ReadsFurther history server fed taken marks [] (outcome_mark server.version outcome ∷ []) (outcome_numbers outcome) new
 
--- further bytes were made, until at least 65536 are pending or nothing is owed
+-- further bytes were made, until at least ENOUGH_PENDING are pending or nothing is owed
 pub record Makes (config : Config) (old new : Conversation) : Type 0 where
   pub part : List ℕ
   pub owed : owed_text config old ≡ part ++ owed_text config new
   pub pending : new.pending ≡ old.pending ++ part
-  pub enough : (65536 ≤ length new.pending) ⊎ (owes new ≡ false)
+  pub enough : (ENOUGH_PENDING ≤ length new.pending) ⊎ (owes new ≡ false)
   pub unread : new.unread ≡ old.unread
   pub reading : new.reading ≡ old.reading
   pub starved : new.starved ≡ false

@@ -3,6 +3,7 @@ use Rattle.std.specs.Prelude.{ℕ, ◌-◌, ◌≡◌, ◌≤◌, ◌||◌, Bool
 use Rattle.std.specs.List.{AllByRecursion, flat_map}
 use Rattle.template_fill.specs.Metadata.{Config}
 use Rattle.template_fill.specs.HttpAnswer.{answer_text}
+use Rattle.tpf_server.specs.declared.limits.TheConstants.{MOST_PENDING}
 use Rattle.tpf_server.specs.declared.asked.Queued.{Queued}
 use Rattle.tpf_server.specs.declared.rest.Rest.{Rest}
 use Rattle.tpf_server.specs.Asked.{IsAsked, answer_of}
@@ -29,9 +30,9 @@ pub record Fits (rest : Rest) (waiting : List Queued) : Type 0 where
   pub range : IsWithin rest
   pub asked : AllByRecursion (λ (queued : Queued). IsAsked queued.asking) waiting
 
--- a first part of the text was appended; behind the bytes that were taken stand at most 81919, where no more stood there before
+-- a first part of the text was appended; behind the bytes that were taken stand at most MOST_PENDING, where no more stood there before
 pub record Fills (debt left : List ℕ) (taken : ℕ) (before after : List ℕ) : Type 0 where
   pub part : List ℕ
   pub owed : debt ≡ part ++ left
   pub made : after ≡ before ++ part
-  pub few : length before - taken ≤ 81919 → length after - taken ≤ 81919
+  pub few : length before - taken ≤ MOST_PENDING → length after - taken ≤ MOST_PENDING

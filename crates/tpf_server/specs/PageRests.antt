@@ -7,6 +7,7 @@ use Rattle.rdf_terms.specs.declared.term.Quad.{Quad}
 use Rattle.triple_table.specs.declared.ids.IdTriple.{IdTriple}
 use Rattle.triple_table.specs.declared.ids.Range.{Range}
 use Rattle.triple_table.specs.Stored.{Stored, IsIdTriple, IsRange, held_terms, listed, triple_at}
+use Rattle.tpf_server.specs.declared.limits.TheConstants.{LONGEST_PART}
 use Rattle.tpf_server.specs.declared.parts.Begun.{Begun}
 use Rattle.tpf_server.specs.declared.parts.Begun.TheVariants.{Nothing, Triple, Line}
 use Rattle.tpf_server.specs.declared.rest.PageTriples.{PageTriples}
@@ -84,7 +85,7 @@ ArePart table (Listed triples next) = All (IsIdTriple (held_terms table)) triple
 pub record IsShortMetadata (page : PageLines) : Type 0 where
   pub begun : page.begun ≡ []
   pub past : triples_left page.triples ≡ false
-  pub few : length (concat (quad_lines page.quads)) ≤ 16384
+  pub few : length (concat (quad_lines page.quads)) ≤ LONGEST_PART
 
 -- of these triples the first has these ids, and those are behind it
 pub record IsFirst (table : Stored) (old : PageTriples) (ids : IdTriple) (new : PageTriples) : Type 0 where

@@ -1,6 +1,7 @@
 -- What is left of the body of an answer that was begun.
 use Rattle.std.specs.Prelude.{ℕ, ◌<◌, ◌≤◌, Bool, true, false, List, [], length}
 use Rattle.template_fill.specs.HttpAnswer.{refusal}
+use Rattle.tpf_server.specs.declared.limits.TheConstants.{LONGEST_PART}
 use Rattle.tpf_server.specs.declared.rest.Rest.{Rest}
 use Rattle.tpf_server.specs.declared.rest.Rest.TheVariants.{Nothing, Line, Words, Page}
 use Rattle.tpf_server.specs.Statuses.{code}
@@ -23,5 +24,5 @@ is_left (Page page) = page_left page
 abbrev pub IsWithin : Rest → Type 0
 IsWithin Nothing = Unit {0}
 IsWithin (Line status) = Unit {0}
-IsWithin (Words text) = (0 < length text) × (length text ≤ 16384)
+IsWithin (Words text) = (0 < length text) × (length text ≤ LONGEST_PART)
 IsWithin (Page page) = ArePart page.table page.triples

@@ -2,31 +2,30 @@
 ghost use Rattle.std.specs.Prelude.{ℕ, ◌≡◌, ◌≤◌, ◌<◌, ◌+◌, ◌-◌, ◌++◌, [], List, None, true, false, length, take, drop, IsOk, IsErr, OnOk, OnErr};
 ghost use Rattle.rdf_terms.specs.declared.term.Triple.{Triple};
 ghost use Rattle.list_laws.specs.Begins.{Begins};
+ghost use Rattle.tpf_base.specs.declared.limits.TheConstants.{ENOUGH_PENDING};
 ghost use Rattle.http_wire.specs.Requests.{holding};
 ghost use Rattle.template_fill.specs.Metadata.{Config};
 ghost use Rattle.tpf_base.specs.Marks.{Mark};
+ghost use Rattle.tpf_server.specs.declared.limits.TheConstants.{MOST_PENDING};
 ghost use Rattle.tpf_server.specs.Reading.{is_ended};
 ghost use Rattle.tpf_server.specs.Reloads.{IsOutcome};
 ghost use Rattle.tpf_server.specs.Conversation.{Answers, Conversation, Feeds, Makes, Reloads, closing, opening, owed_text, owes, starved_at, wants_reload};
 
 use crate::Server;
+use crate::limits::LONGEST_PART;
 use crate::outcome::Reloaded;
-use crate::owed::{Debt, FULL};
+use crate::owed::Debt;
 use crate::reading::Reading;
 use http_wire::RequestFeed;
 use std::alloc::Global;
 use std::marker::Model;
 use std::mem;
-use tpf_base::OutOfMemory;
-
-/// The most bytes of a buffer that a connection keeps while nothing is owed on it: a page of a hundred
-/// triples has its place there.
-pub const KEPT: usize = 16384;
+use tpf_base::{ENOUGH_PENDING, OutOfMemory};
 
 /// One connection of a server: it takes the bytes that come and gives those of the response in
-/// parts, each of at most 16384 bytes: the head of an answer, lines of a body, or a part of a long line.
-/// No long body is made whole, and no long line. So at most 81919 bytes are pending at any time, whatever is
-/// asked for: 65535, and one part.
+/// parts, each of at most `LONGEST_PART` (16384) bytes: the head of an answer, lines of a body, or a part
+/// of a long line. No long body is made whole, and no long line. So at most `MOST_PENDING` (81919) bytes
+/// are pending at any time, whatever is asked for: one fewer than `ENOUGH_PENDING` (65536), and one part.
 ///
 /// A head is answered over the version that the server has when the head is read, also where the
 /// server is reloaded before the answer is made. A request for a reload is not answered, and nothing
@@ -82,6 +81,7 @@ fn compact(bytes: &mut Vec<u8>, given: usize) -> usize
 
 impl Model for Connection {
     ghost use Rattle.std.specs.Prelude.{◌≡◌, ◌≤◌, ◌+◌, ◌-◌, length, drop, None};
+    ghost use Rattle.tpf_server.specs.declared.limits.TheConstants.{MOST_PENDING};
     ghost use Rattle.tpf_server.specs.Owed.{Fits};
     ghost use Rattle.tpf_server.specs.Conversation as conversations;
 
@@ -89,7 +89,7 @@ impl Model for Connection {
 
     ghost view = { λ c. record { unread = c.requests.bytes; reading = c.reading; rest = c.debt.rest; waiting = c.debt.waiting.items; pending = drop c.given c.bytes.items; starved = c.starved } };
 
-    ghost invariant = { λ c. (c.given + c.given ≤ length c.bytes.items) × (c.requests.refused ≡ None) × Fits c.debt.rest c.debt.waiting.items × (length c.bytes.items - c.given ≤ 81919) };
+    ghost invariant = { λ c. (c.given + c.given ≤ length c.bytes.items) × (c.requests.refused ≡ None) × Fits c.debt.rest c.debt.waiting.items × (length c.bytes.items - c.given ≤ MOST_PENDING) };
 }
 
 impl Connection {
@@ -264,7 +264,7 @@ impl Connection {
     fn make_on(&mut self, server: &Server) -> Result<(), OutOfMemory>
         requires fed { self.old.starved ≡ false }
         ensures ok { OnOk result (Makes server.now.config self.old self.new) }
-        ensures few { length self.new.pending ≤ 81919 }
+        ensures few { length self.new.pending ≤ MOST_PENDING }
         ensures pending { Begins self.old.pending self.new.pending }
         ensures some { OnOk result (owes self.old ≡ true → 0 < length self.new.pending) }
         ensures reading { OnErr result (self.new.reading ≡ self.old.reading) }
@@ -279,9 +279,9 @@ impl Connection {
     #[tactic(auto, using(crate::proofs::KeptLaws::few_view))]
     fn make(&mut self, server: &Server) -> Result<(), OutOfMemory>
         ensures ok { OnOk result (Makes server.now.config self.old self.new) }
-        ensures few { length self.new.pending ≤ 81919 }
-        ensures full { 65536 ≤ length self.old.pending → OnOk result (self.new ≡ self.old) }
-        ensures full_ok { 65536 ≤ length self.old.pending → self.old.starved ≡ false → IsOk result }
+        ensures few { length self.new.pending ≤ MOST_PENDING }
+        ensures full { ENOUGH_PENDING ≤ length self.old.pending → OnOk result (self.new ≡ self.old) }
+        ensures full_ok { ENOUGH_PENDING ≤ length self.old.pending → self.old.starved ≡ false → IsOk result }
         ensures idle { owes self.old ≡ false → OnOk result (self.new ≡ self.old) }
         ensures idle_ok { owes self.old ≡ false → IsOk result }
         ensures pending { Begins self.old.pending self.new.pending }
@@ -295,30 +295,30 @@ impl Connection {
         if !self.debt.is_left() {
             return Ok(());
         }
-        if self.bytes.len() - self.given >= FULL {
+        if self.bytes.len() - self.given >= ENOUGH_PENDING {
             return Ok(());
         }
         self.make_on(server)
     }
 
-    /// Makes further bytes of the response, a part at a time, until at least 65536 are pending or nothing
-    /// is owed. Where as many are pending, or nothing is owed, it changes nothing and takes no memory. So
-    /// never more than 81919 are pending (`few`). Each answer is made over the version by which its head
-    /// was read; of the server only the configuration is used.
+    /// Makes further bytes of the response, a part at a time, until at least `ENOUGH_PENDING` (65536) are
+    /// pending or nothing is owed. Where as many are pending, or nothing is owed, it changes nothing and
+    /// takes no memory. So never more than `MOST_PENDING` (81919) are pending (`few`). Each answer is made
+    /// over the version by which its head was read; of the server only the configuration is used.
     ///
     /// `OutOfMemory` comes only where memory runs out. The pending bytes are then as before, all else is
     /// dropped, and each later `feed` and `fill` answers `OutOfMemory`.
     pub fn fill(&mut self, server: &Server) -> Result<(), OutOfMemory>
         ensures ok { OnOk result (Makes server.now.config self.old self.new) }
-        ensures full { 65536 ≤ length self.old.pending → OnOk result (self.new ≡ self.old) }
-        ensures full_ok { 65536 ≤ length self.old.pending → self.old.starved ≡ false → IsOk result }
+        ensures full { ENOUGH_PENDING ≤ length self.old.pending → OnOk result (self.new ≡ self.old) }
+        ensures full_ok { ENOUGH_PENDING ≤ length self.old.pending → self.old.starved ≡ false → IsOk result }
         ensures idle { owes self.old ≡ false → OnOk result (self.new ≡ self.old) }
         ensures idle_ok { owes self.old ≡ false → IsOk result }
         ensures answers { OnOk result ((history : List (List Triple)) (fed taken : List ℕ) (marks : List Mark)
             → Answers history server.now.config fed taken marks self.old
             → Answers history server.now.config fed taken marks self.new) }
         ensures some { OnOk result (owes self.old ≡ true → 0 < length self.new.pending) }
-        ensures few { length self.new.pending ≤ 81919 }
+        ensures few { length self.new.pending ≤ MOST_PENDING }
         ensures err { OnErr result (self.new ≡ starved_at self.old) }
         ensures starved { self.old.starved ≡ true → IsErr result }
     {
@@ -342,11 +342,11 @@ impl Connection {
         self.starved || self.debt.is_left()
     }
 
-    /// The bytes of the response that are made and not taken: at most 81919.
+    /// The bytes of the response that are made and not taken: at most `MOST_PENDING` (81919).
     #[tactic(auto, using(crate::proofs::KeptLaws::few_view))]
     pub fn pending(&self) -> &[u8]
         ensures is_pending { result.now ≡ self.now.pending }
-        ensures few { length result.now ≤ 81919 }
+        ensures few { length result.now ≤ MOST_PENDING }
     {
         &self.bytes[self.given..]
     }
@@ -357,7 +357,7 @@ impl Connection {
         requires { self.old.pending ≡ [] }
         ensures { self.new ≡ self.old }
     {
-        if self.debt.is_left() || self.bytes.capacity() <= KEPT {
+        if self.debt.is_left() || self.bytes.capacity() <= LONGEST_PART {
             self.bytes.clear();
         } else {
             self.bytes = Vec::new(self.alloc);

@@ -4,9 +4,10 @@ ghost use Rattle.http_wire.specs.Fields.{pair_of, pairs_of};
 ghost use Rattle.list_laws.specs.Begins.{Begins};
 ghost use Rattle.tpf_base.specs.Decimals.{decimal_text};
 ghost use Rattle.template_fill.specs.HttpAnswer.{answer_fields, field_if, head_text, media_text};
+ghost use Rattle.tpf_server.specs.declared.limits.TheConstants.{LONGEST_PART};
 ghost use Rattle.tpf_server.specs.Statuses.{code, media_of};
 
-use crate::connection::KEPT;
+use crate::limits::LONGEST_PART;
 use crate::lines::append;
 use crate::status::Status;
 use http_wire::{Field, write_head};
@@ -111,11 +112,11 @@ fn is_page(status: Status, media: MediaType, closes: bool) -> bool
 
 /// How many bytes a buffer is made with for a page and its head: 0 where a connection keeps none as long.
 fn buffer_length(body_length: u128) -> usize {
-    if body_length > KEPT as u128 {
+    if body_length > LONGEST_PART as u128 {
         return 0;
     }
     let wanted = body_length as usize + HEAD;
-    if wanted > KEPT {
+    if wanted > LONGEST_PART {
         return 0;
     }
     wanted.next_power_of_two()
@@ -164,7 +165,7 @@ pub fn write_answer_head(
 ) -> Result<(), OutOfMemory>
     ensures ok { OnOk result
         (out.new.items ≡ out.old.items ++ head_text (code status) (media_of media) body_length closes) }
-    ensures few { length (head_text (code status) (media_of media) body_length closes) ≤ 16384 }
+    ensures few { length (head_text (code status) (media_of media) body_length closes) ≤ LONGEST_PART }
     ensures front { Begins out.old.items out.new.items }
 {
     if is_page(status, media, closes) {

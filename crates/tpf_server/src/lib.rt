@@ -18,6 +18,7 @@
 mod asked;
 mod connection;
 mod head;
+mod limits;
 mod lines;
 mod outcome;
 mod owed;
@@ -32,5 +33,6 @@ mod snapshot;
 mod status;
 
 pub use connection::Connection;
+pub use limits::{LONGEST_PART, MOST_PENDING, PART};
 pub use outcome::Reloaded;
 pub use server::Server;

@@ -1,6 +1,8 @@
 // What is owed on a connection: the rest of an answer that was begun, and the answers behind it.
 ghost use Rattle.std.specs.Prelude.{ℕ, ◌≡◌, ◌⊎◌, ◌-◌, ◌≤◌, [], true, false, None, length, take, IfOk, OnOk, OnErr, if◌then◌else◌};
 ghost use Rattle.list_laws.specs.Begins.{Begins};
+ghost use Rattle.tpf_base.specs.declared.limits.TheConstants.{ENOUGH_PENDING};
+ghost use Rattle.tpf_server.specs.declared.limits.TheConstants.{MOST_PENDING};
 ghost use Rattle.tpf_server.specs.Asked.{IsAsked};
 ghost use Rattle.tpf_server.specs.Given.{IsGiven};
 ghost use Rattle.tpf_server.specs.Rests.{IsWithin, rest_text};
@@ -19,10 +21,7 @@ use http_wire::{NextHead, RequestFeed, RequestHead};
 use hydra_controls::Config;
 use std::alloc::Global;
 use std::collections::VecDeque;
-use tpf_base::OutOfMemory;
-
-/// So many bytes are pending, or more, where something is still owed after `fill`.
-pub const FULL: usize = 65536;
+use tpf_base::{ENOUGH_PENDING, OutOfMemory};
 
 /// What is owed on a connection.
 #[derive(Drop)]
@@ -216,7 +215,7 @@ impl Debt {
         }
     }
 
-    /// Appends parts until 65536 bytes stand behind the `given` ones, or nothing is owed.
+    /// Appends parts until `ENOUGH_PENDING` bytes stand behind the `given` ones, or nothing is owed.
     fn fill_on(
         &mut self,
         alloc: Global,
@@ -228,20 +227,21 @@ impl Debt {
         requires given { given ≤ length out.old.items }
         ensures ok { OnOk result (Fills (debt_text config.now self.old.rest self.old.waiting.items)
             (debt_text config.now self.new.rest self.new.waiting.items) given out.old.items out.new.items) }
-        ensures enough { OnOk result ((65536 ≤ length out.new.items - given)
+        ensures enough { OnOk result ((ENOUGH_PENDING ≤ length out.new.items - given)
             ⊎ (debt_left self.new.rest self.new.waiting.items ≡ false)) }
         ensures fits { OnOk result (Fits self.new.rest self.new.waiting.items) }
         ensures front { Begins out.old.items out.new.items }
     {
-        while out.len() - given < FULL && self.is_left() {
+        while out.len() - given < ENOUGH_PENDING && self.is_left() {
             self.give(alloc, config, out)?;
         }
         self.rest.settle();
         Ok(())
     }
 
-    /// Appends parts until 65536 bytes stand behind the `given` ones, or nothing is owed; so at most 81919
-    /// stand there, where no more stood there before. After `OutOfMemory` `out` is as before.
+    /// Appends parts until `ENOUGH_PENDING` bytes stand behind the `given` ones, or nothing is owed; so
+    /// at most `MOST_PENDING` stand there, where no more stood there before. After `OutOfMemory` `out` is
+    /// as before.
     #[tactic(auto, using(list_laws::proofs::Begins::cut_back))]
     pub fn fill(
         &mut self,
@@ -254,11 +254,11 @@ impl Debt {
         requires given { given ≤ length out.old.items }
         ensures ok { OnOk result (Fills (debt_text config.now self.old.rest self.old.waiting.items)
             (debt_text config.now self.new.rest self.new.waiting.items) given out.old.items out.new.items) }
-        ensures enough { OnOk result ((65536 ≤ length out.new.items - given)
+        ensures enough { OnOk result ((ENOUGH_PENDING ≤ length out.new.items - given)
             ⊎ (debt_left self.new.rest self.new.waiting.items ≡ false)) }
         ensures fits { OnOk result (Fits self.new.rest self.new.waiting.items) }
         ensures front { Begins out.old.items out.new.items }
-        ensures few { length out.old.items - given ≤ 81919 → length out.new.items - given ≤ 81919 }
+        ensures few { length out.old.items - given ≤ MOST_PENDING → length out.new.items - given ≤ MOST_PENDING }
     {
         let before = out.len();
         let filled = self.fill_on(alloc, config, given, out);

@@ -6,6 +6,7 @@ ghost use Rattle.triple_table.specs.Stored.{listed};
 ghost use Rattle.fragment_pages.specs.Pages.{IsPage, IsPageNumber, shown};
 ghost use Rattle.template_fill.specs.Forms.{HasNoBlank};
 ghost use Rattle.restricted_pages.specs.Pages.{IsSelectedAnswer, IsSelectedNumber, IsSelectedPage, chosen};
+ghost use Rattle.tpf_server.specs.declared.limits.TheConstants.{LONGEST_PART};
 ghost use Rattle.tpf_server.specs.Statuses.{body_text, version_line};
 ghost use Rattle.tpf_server.specs.Serving.{served};
 ghost use Rattle.tpf_server.specs.Asked.{IsAsked};
@@ -286,7 +287,7 @@ fn version_text(alloc: Global, number: u64) -> Result<Text, OutOfMemory>
 /// The answer to a reload that reached this version.
 #[tactic(auto, using(crate::proofs::OpenLaws::short_version))]
 fn open_version(alloc: Global, number: u64) -> Result<Opened, OutOfMemory>
-    ensures few { length (version_line number) ≤ 16384 }
+    ensures few { length (version_line number) ≤ LONGEST_PART }
     ensures opened { IfOk result (λ o. o ≡ record {
       status = Status.Success;
       media = MediaType.PlainText;

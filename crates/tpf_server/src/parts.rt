@@ -5,19 +5,18 @@ ghost use Rattle.rdf_terms.specs.declared.term.Quad.{Quad};
 ghost use Rattle.rdf_terms.specs.Canon.{canonical_byte, canonical_kind, canonical_line};
 ghost use Rattle.list_laws.specs.Begins.{Begins};
 ghost use Rattle.triple_table.specs.Stored.{Stored, IsIdTriple, held_terms, triple_at};
+ghost use Rattle.tpf_server.specs.declared.limits.TheConstants.{PART};
 ghost use Rattle.tpf_server.specs.Given.{IsGiven};
 ghost use Rattle.tpf_server.specs.Lines.{some_quad};
 ghost use Rattle.tpf_server.specs.PageRests.{IsBegun, begun_text};
 ghost use Rattle.tpf_server.specs.Parts.{CutsMarks, ended_marks, form_marks, plain_marks, term_marks, triple_marks};
 
+use crate::limits::PART;
 use crate::lines::{triple_length, write_triple};
 use hydra_controls::{Cut, MetadataLines};
 use rdf_terms::{Kind, Term, after_mark, is_marked};
 use tpf_base::OutOfMemory;
 use triple_table::{IdTriple, Table};
-
-/// A part of a line is what at most so many bytes of its source are written as: at most two bytes each.
-const PART: usize = 8192;
 
 /// The line that was begun, and from which byte of its source on it is left.
 #[derive(Clone, Copy)]
@@ -165,7 +164,7 @@ fn cut_ended(term: &Term, end: &[u8], cut: &mut Cut, out: &mut Vec<u8>) -> Resul
 
 /// Whether a line of so many bytes of which none was given is one part.
 fn is_short(from: u128, length: u128) -> bool
-    ensures { result ≡ true → (from ≡ 0) × (length ≤ 8192) }
+    ensures { result ≡ true → (from ≡ 0) × (length ≤ PART) }
 {
     from == 0 && length <= PART as u128
 }
@@ -180,9 +179,9 @@ fn cut_triple(
 ) -> Result<bool, OutOfMemory>
     requires { IsIdTriple (held_terms table.now) ids }
     ensures ok { IfOk result (λ more.
-        (more ≡ nat_lt 8192 (length (triple_marks (triple_at (held_terms table.now) ids)) - from))
+        (more ≡ nat_lt PART (length (triple_marks (triple_at (held_terms table.now) ids)) - from))
         × (out.new.items ≡ out.old.items
-        ++ concat (take 8192 (drop from (triple_marks (triple_at (held_terms table.now) ids)))))) }
+        ++ concat (take PART (drop from (triple_marks (triple_at (held_terms table.now) ids)))))) }
     ensures front { Begins out.old.items out.new.items }
 {
     let mut cut = Cut::new(from, PART);

@@ -5,6 +5,7 @@ ghost use Rattle.tpf_server.specs.Given.{IsGiven, IsMore};
 ghost use Rattle.tpf_server.specs.PageRests.{ArePart, GivesLines, HasFewer, IsFirst, IsShortMetadata, after_first, lines_left, page_left, page_text, triples_left};
 ghost use Rattle.tpf_server.specs.Rests.{IsWithin, is_left, rest_text};
 
+use crate::limits::LONGEST_PART;
 use crate::lines::{triple_length, write_triple};
 use crate::parts::{Begun, write_line_part, write_triple_part};
 use crate::snapshot::Snapshot;
@@ -13,9 +14,6 @@ use hydra_controls::MetadataLines;
 use std::marker::Model;
 use tpf_base::{OutOfMemory, Text};
 use triple_table::{IdTriple, Range, Table};
-
-/// The most bytes of a part.
-const MOST: usize = 16384;
 
 /// Triples of a page, in their order: a range of the table, or those of a list from a place on.
 #[derive(Drop)]
@@ -321,7 +319,7 @@ impl PageRest {
     {
         let before = out.len();
         self.give_line(out)?;
-        self.give_more(MOST - (out.len() - before), out)?;
+        self.give_more(LONGEST_PART - (out.len() - before), out)?;
         Ok(())
     }
 
@@ -338,7 +336,7 @@ impl PageRest {
         if self.has_triples() {
             return false;
         }
-        self.metadata.total_length() <= MOST as u128
+        self.metadata.total_length() <= LONGEST_PART as u128
     }
 
     /// Appends the metadata.

@@ -1,5 +1,6 @@
 use Rattle.std.proofs.Common.{◌-◌, ◌≡◌, ◌≤◌, ◌⊎◌, ℕ, List, false, length, rules, subst, sym, vec_len, ◌∙◌}
 use Rattle.std.specs.Prelude.{OnOk}
+use Rattle.tpf_base.specs.declared.limits.TheConstants.{ENOUGH_PENDING}
 use Rattle.tpf_server.specs.Owed.{Fills, Fits, debt_left, debt_text}
 use Rattle.tpf_server.proofs.DebtLaws.{back_begins, back_enough, back_err, back_few, back_fills}
 use Rattle.tpf_server.proofs.owed.Debt.fill.Goals as goal
@@ -11,8 +12,8 @@ returns-clause-ok c =
 
 pub returns-clause-enough : goal.returns-clause-enough
 returns-clause-enough c =
-    back_enough c.taken_back.result (λ (l : List ℕ). (65536 ≤ length l - c.args.given) ⊎ (debt_left c.fill_on-filled.new.self.rest c.fill_on-filled.new.self.waiting.items ≡ false)) c.fill_on-filled.new.out.items c.taken_back.new.out.items c.taken_back.ensures.ok
-    (subst (λ r. OnOk r ((65536 ≤ length c.fill_on-filled.new.out.items - c.args.given) ⊎ (debt_left c.fill_on-filled.new.self.rest c.fill_on-filled.new.self.waiting.items ≡ false))) (sym c.taken_back.ensures.same) c.fill_on-filled.ensures.enough)
+    back_enough c.taken_back.result (λ (l : List ℕ). (ENOUGH_PENDING ≤ length l - c.args.given) ⊎ (debt_left c.fill_on-filled.new.self.rest c.fill_on-filled.new.self.waiting.items ≡ false)) c.fill_on-filled.new.out.items c.taken_back.new.out.items c.taken_back.ensures.ok
+    (subst (λ r. OnOk r ((ENOUGH_PENDING ≤ length c.fill_on-filled.new.out.items - c.args.given) ⊎ (debt_left c.fill_on-filled.new.self.rest c.fill_on-filled.new.self.waiting.items ≡ false))) (sym c.taken_back.ensures.same) c.fill_on-filled.ensures.enough)
 
 pub returns-clause-fits : goal.returns-clause-fits
 returns-clause-fits c = subst (λ r. OnOk r (Fits c.fill_on-filled.new.self.rest c.fill_on-filled.new.self.waiting.items)) (sym c.taken_back.ensures.same) c.fill_on-filled.ensures.fits
