@@ -3,6 +3,7 @@ use Rattle.std.proofs.Common.{ℕ, ◌≡◌, List, sym, subst, ◌∙◌, inl, 
 use Rattle.rdf_terms.specs.declared.term.Term.{Term}
 use Rattle.rdf_terms.specs.declared.term.Term.TheVariants.{Iri}
 use Rattle.rdf_terms.specs.declared.term.Quad.{Quad}
+use Rattle.rdf_terms.specs.EqualityLaws.{same_iri}
 use Rattle.tpf_base.specs.Addresses.{Address, address_text, authority_of}
 use Rattle.page_controls.specs.declared.told.Told.{Told}
 use Rattle.fragment_page.specs.declared.page.PageFault.{PageFault}
@@ -10,11 +11,10 @@ use Rattle.page_controls.specs.Controls.{IsTopic}
 use Rattle.page_controls.specs.Outcomes.{Answers}
 use Rattle.page_controls.specs.Parts.{Source}
 use Rattle.page_controls.specs.Stages.{TakesControls, FirstAmiss, TakesPage, WhyNoPage}
-use Rattle.page_controls.proofs.Topics.{iri_same}
 
 module _ (quads : List Quad) (address : Address) (s : Source) (t : Term) (same : s.quads ≡ quads) (e : t ≡ Iri s.topic) (h : (topic : List ℕ) × (t ≡ Iri topic) × IsTopic quads (address_text address) topic) where
   is_topic : IsTopic quads (address_text address) s.topic
-  is_topic = subst (λ (x : List ℕ). IsTopic quads (address_text address) x) (iri_same h.0 s.topic (sym h.1 ∙ e)) h.2
+  is_topic = subst (λ (x : List ℕ). IsTopic quads (address_text address) x) (same_iri h.0 s.topic (sym h.1 ∙ e)) h.2
 
   pub page_answers : (r : Result Told PageFault) → Answers (TakesControls s.quads s.topic (authority_of address)) (FirstAmiss s.quads s.topic (authority_of address)) r → Answers (TakesPage quads address) (WhyNoPage quads address) r
   page_answers (Ok told) a = record { topic = s.topic; is_topic = is_topic; controls = subst (λ (q : List Quad). TakesControls q s.topic (authority_of address) told) same a }

@@ -14,27 +14,27 @@ use Rattle.std.specs.Ordering.{is_eq}
 use Rattle.std.proofs.lemmas.Bool.{and_from, and_parts}
 use Rattle.list_laws.proofs.Members.{Contains-filter_map, any_of, from_filter_map, some_of}
 use Rattle.rdf_terms.specs.Order.{term_order}
-use Rattle.rdf_terms.specs.EqualityLaws.{triple_decides}
+use Rattle.rdf_terms.specs.EqualityLaws.{triple_decides, same_iri}
 use Rattle.rdf_terms.specs.OrderLaws.{term_ties}
+use Rattle.rdf_terms.proofs.Equality.{term_same, term_self}
 use Rattle.page_controls.specs.declared.topic.GraphTopic.{GraphTopic}
 use Rattle.page_controls.specs.Controls.{IsAbout, Says}
 use Rattle.page_controls.specs.Parts.{Source, About, about, abouts, abouts_of, borrowed_triples, is_about, is_about_in, has_about, is_control, control_of, AreControls, triple}
 use Rattle.page_controls.specs.Ranges.{length_triple_order}
 use Rattle.page_controls.specs.LengthLaws.{length_triple_total, length_triple_ties}
 use Rattle.page_controls.proofs.Sorted.{from_sorted, in_sorted, sorted_ascends}
-use Rattle.page_controls.proofs.TermTests.{term_same, term_itself}
-use Rattle.page_controls.proofs.Topics.{iri_same, listed_about, about_listed}
+use Rattle.page_controls.proofs.Topics.{listed_about, about_listed}
 
 pub about_has : (quads : List Quad) (topic : List ℕ) (graph : Term) → IsAbout quads graph topic → has_about quads (Iri topic) graph ≡ true
 about_has quads topic graph h =
-    any_of (is_about (Iri topic) graph) (abouts_of quads) (record { graph = graph; topic = Iri topic }) (about_listed quads graph topic h) (and_from _ _ (term_itself graph) (term_itself (Iri topic)))
+    any_of (is_about (Iri topic) graph) (abouts_of quads) (record { graph = graph; topic = Iri topic }) (about_listed quads graph topic h) (and_from _ _ (term_self graph) (term_self (Iri topic)))
 
 pub has_is_about : (quads : List Quad) (topic : List ℕ) (graph : Term) → has_about quads (Iri topic) graph ≡ true → IsAbout quads graph topic
 has_is_about quads topic graph h =
     let r = some_of (is_about (Iri topic) graph) (abouts_of quads) h in
     let both_are = and_parts (term_eq r.0.graph graph) (term_eq r.0.topic (Iri topic)) r.2 in
     let l = listed_about quads r.0 r.1 in
-    let same = iri_same l.0 topic (sym l.1 ∙ term_same _ _ both_are.1) in
+    let same = same_iri l.0 topic (sym l.1 ∙ term_same _ _ both_are.1) in
     subst (λ (g : Term). IsAbout quads g topic) (term_same _ _ both_are.0) (subst (λ (t : List ℕ). IsAbout quads r.0.graph t) same l.2)
 
 some_same : (a b : Triple) → ◌≡◌ {A = Option Triple} (Some a) (Some b) → a ≡ b

@@ -6,6 +6,9 @@ use Rattle.std.specs.Prelude.{is_none, is_some}
 use Rattle.std.proofs.Math.ListN.{drop_of_length-le}
 use Rattle.std.specs.List.{list_any, filter, zip}
 use Rattle.std.specs.Ordering.{is_eq}
+use Rattle.std.proofs.lemmas.List.Elements.{filter-append}
+use Rattle.std.proofs.lemmas.List.{map-append}
+use Rattle.list_laws.proofs.Lists.{any_snoc}
 use Rattle.rdf_terms.specs.Same.{triple_eq}
 use Rattle.rdf_terms.specs.declared.term.Term.{Term}
 use Rattle.rdf_terms.specs.declared.term.Triple.{Triple}
@@ -15,7 +18,7 @@ use Rattle.page_controls.specs.Seen.{once_more, is_new}
 use Rattle.page_controls.specs.Ranges.{length_triple_order}
 use Rattle.page_controls.specs.LengthLaws.{length_triple_ties}
 use Rattle.page_controls.specs.Marks.{is_first, is_data, marked}
-use Rattle.page_controls.proofs.Steps.{map-append, taken_more}
+use Rattle.page_controls.proofs.Steps.{taken_more}
 
 not_not : (b : Bool) → not (not b) ≡ b
 not_not true = refl
@@ -33,15 +36,6 @@ key_added new old key q e = e ∙ ap (λ b. cond b true old) (sym (length_triple
 pub data_added : (new old : Bool) (graph : Option Term) (key q : Triple) → is_some graph ≡ false → new ≡ cond (is_eq (length_triple_order key q)) true old → new ≡ ((is_none graph && triple_eq key q) || old)
 data_added new old None key q none e = key_added new old key q e
 data_added new old (Some g) key q none e = absurd (cc)
-
-any_more : (p : Triple → Bool) (xs : List Triple) (t : Triple) → list_any p (xs ++ t ∷ []) ≡ (p t || list_any p xs)
-any_more p [] t = refl
-any_more p (x ∷ xs) t = ap (λ b. p x || b) (any_more p xs t) ∙ turned (p x) (p t) (list_any p xs)
-  where
-    turned : (a b c : Bool) → (a || (b || c)) ≡ (b || (a || c))
-    turned true true c = refl
-    turned true false c = refl
-    turned false b c = refl
 
 filter-filter : (p q : Triple → Bool) (xs : List Triple) → filter p (filter q xs) ≡ filter (λ x. q x && p x) xs
 filter-filter p q [] = refl
@@ -65,7 +59,7 @@ pub firsts_start : (ts : List Triple) → firsts ts ≡ filter (is_new []) (firs
 firsts_start ts = sym (filter_all (is_new []) (λ x. refl) (firsts ts))
 
 new_step : (before : List Triple) (t s : Triple) → (not (triple_eq t s) && is_new before s) ≡ is_new (before ++ t ∷ []) s
-new_step before t s = by (triple_eq t s) (list_any (λ u. triple_eq u s) before) ∙ ap not (sym (any_more (λ u. triple_eq u s) before t))
+new_step before t s = by (triple_eq t s) (list_any (λ u. triple_eq u s) before) ∙ ap not (sym (any_snoc (λ u. triple_eq u s) before t))
   where
     by : (a b : Bool) → (not a && not b) ≡ not (a || b)
     by true b = refl
@@ -120,14 +114,6 @@ marked_all quads i marks past e =
     marked_are quads marks (e ∙ ap (λ (l : List Quad). marks ++ marks_after (default_triples (take i quads)) l) (drop_of_length-le quads past) ∙ append-nil marks)
 
 -- ---- one quad more
-
-filter-append : {X : Type 0} (p : X → Bool) (xs ys : List X) → filter p (xs ++ ys) ≡ filter p xs ++ filter p ys
-filter-append p [] ys = refl
-filter-append {X} p (x ∷ xs) ys = by (p x) (filter-append p xs ys)
-  where
-    by : (b : Bool) → filter p (xs ++ ys) ≡ filter p xs ++ filter p ys → cond b (x ∷ filter p (xs ++ ys)) (filter p (xs ++ ys)) ≡ cond b (x ∷ filter p xs) (filter p xs) ++ filter p ys
-    by true e = ap (λ l. x ∷ l) e
-    by false e = e
 
 module _ (all : List Quad) (i : ℕ) (q : Quad) (below : i < length all) (at : q ≡ get_or all i q) where
   before : List Triple

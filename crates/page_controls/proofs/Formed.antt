@@ -23,13 +23,13 @@ use Rattle.rdf_terms.specs.Same.{term_eq}
 use Rattle.rdf_terms.specs.Order.{term_order}
 use Rattle.rdf_terms.specs.OrderLaws.{term_total, term_ties}
 use Rattle.rdf_terms.specs.EqualityLaws.{term_decides}
+use Rattle.rdf_terms.proofs.Equality.{term_same, term_self, same_passes}
 use Rattle.page_controls.specs.Vocabulary.{search_form, form_mapping}
 use Rattle.page_controls.specs.Controls.{Says, IsOnly, FormTexts, IsLiteral, MapsTo, IsForm, HasNoForm, IsLeastForm}
 use Rattle.page_controls.specs.Parts.{borrowed_terms, objects_in, form_of, AreControls, triple}
 use Rattle.page_controls.specs.Places.{searched_of, IsSearched, Names, NamesOther, MapsToOther}
 use Rattle.page_controls.specs.Variables.{named_all, AreVariables, HasVariable}
 use Rattle.page_controls.specs.declared.variable.Variable.{Variable}
-use Rattle.page_controls.proofs.TermTests.{term_same, term_itself, term_is}
 use Rattle.page_controls.proofs.Sorted.{from_sorted, in_sorted, sorted_ascends}
 use Rattle.page_controls.proofs.Variabled.{literal_form, form_literal}
 
@@ -56,7 +56,7 @@ module _ (P : Term → Type 0) (xs : List Term) (m : (o : Term) → Contains xs 
       let p = and_parts (is_some (form_of r.0)) (not (term_eq r.0 literal)) r.2 in
       let first = only.1 literal ((m literal).0 h, is_literal literal l) in
       let second = only.1 r.0 ((m r.0).0 r.1, is_literal r.0 p.0) in
-      not_both_ways _ (term_is r.0 literal (second ∙ sym first)) (not-true _ p.1)
+      not_both_ways _ (same_passes r.0 literal (second ∙ sym first)) (not-true _ p.1)
 
   pub one_literal : (literal : Term) → Contains xs literal → is_some (form_of literal) ≡ true → list_any (λ o. is_some (form_of o) && not (term_eq o literal)) xs ≡ false →
       IsOnly (λ o. P o × ((text : List ℕ) × IsLiteral o text)) literal
@@ -77,7 +77,7 @@ module _ (P : Term → Type 0) (xs : List Term) (m : (o : Term) → Contains xs 
   pub other_object : (object : Term) → list_any (λ o. not (term_eq o object)) xs ≡ true → ((o : Term) → P o → o ≡ object) → ⊥
   other_object object more all =
       let r = some_of (λ o. not (term_eq o object)) xs more in
-      not_both_ways _ (term_is r.0 object (all r.0 ((m r.0).0 r.1))) (not-true _ r.2)
+      not_both_ways _ (same_passes r.0 object (all r.0 ((m r.0).0 r.1))) (not-true _ r.2)
 
 pub template_is : (r : Option (Bor (List ℕ))) (literal : Term) (Q : Term → Type 0) → option_copied r ≡ form_of literal → is_some (form_of literal) ≡ true → IsOnly Q literal →
     MatchOption r ((l : Term) → IsOnly Q l → ⊥) (λ text. (l : Term) × IsOnly Q l × IsLiteral l text.now)
@@ -175,7 +175,7 @@ are_searched quads topic triples xs ys zs are listed moved kept node = (
       (t.subject, (are.members t.subject search_form node).0 (subst (λ (x : Triple). Contains triples x) same r.1))),
   (λ h.
       in_sorted (λ (t : Bor Term). t.now) term_total (λ x y. term_ties x.now y.now) (λ x y e. (term_decides x.now y.now).0 e) _ xs ys zs listed moved kept node
-      (Contains-filter_map searched_of triples (triple h.0 search_form node) node ((are.members h.0 search_form node).1 h.1) (ap (λ (b : Bool). cond b (Some node) None) (term_itself search_form)))),
+      (Contains-filter_map searched_of triples (triple h.0 search_form node) node ((are.members h.0 search_form node).1 h.1) (ap (λ (b : Bool). cond b (Some node) None) (term_self search_form)))),
 )
 
 pub searched_ascend : (all : List Term) (xs ys zs : List (Bor Term)) → borrowed_terms xs ≡ all → IsPermutation xs ys → IsFiltered (DiffersFromLast (λ (x y : Bor Term). term_eq x.now y.now)) [] ys zs →

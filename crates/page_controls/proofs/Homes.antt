@@ -1,13 +1,11 @@
 -- The authority of a template that was read.
 use Rattle.std.proofs.Common.{◌≡◌, ℕ, Bool, true, false, List, [], Some, sym, ◌∙◌, refl, subst, true≢false}
 use Rattle.std.specs.Prelude.{◌↔◌, IsTrue, MatchBool}
-use Rattle.tpf_base.specs.Addresses.{Address, IsAddress, authority_of, authority_text}
+use Rattle.tpf_base.specs.Addresses.{Address, IsAddress, authority_of}
 use Rattle.template_fill.specs.Templates.{Template, read_template, expansion}
-use Rattle.template_fill.specs.Authorities.{ShareAuthority, TemplatesAreKept, ExpansionsAreAddresses, ExpansionsShareAuthority}
+use Rattle.template_fill.specs.Authorities.{TemplatesAreKept, ExpansionsAreAddresses, ExpansionsShareAuthority}
+use Rattle.template_fill.proofs.Authorities.{same_authority}
 use Rattle.page_controls.specs.Controls.{IsHome, IsForeign}
-
-same_authority : (one other : Address) → ShareAuthority one other → authority_of other ≡ authority_of one
-same_authority one other share = λ i. authority_text (share.host i) (share.port i)
 
 by_start : (template : Template) (authority : List ℕ) (b : Bool) → IsTrue b ↔ (authority_of template.start ≡ authority) → (address : Address) → IsAddress (expansion template []) address
     → authority_of address ≡ authority_of template.start → MatchBool b (IsHome template authority) (IsForeign template authority)

@@ -1,4 +1,3 @@
-pub mod TermTests
 pub mod Topics
 pub mod Controlled
 pub mod LengthOrder

@@ -1,24 +1,16 @@
 -- Numbers of up to 19 digits.
-use Rattle.std.proofs.Common.{ℕ, ◌≡◌, ◌^◌, ◌<◌, ◌≤◌, Bool, true, ◌&&◌, List, [], ◌∷◌, nat_le, length, arith, refl, ap, ◌∙◌, Result, Ok}
+use Rattle.std.proofs.Common.{ℕ, ◌≡◌, ◌^◌, ◌<◌, ◌≤◌, true, ◌&&◌, List, nat_le, length, arith, ◌∙◌, Result, Ok}
 use Rattle.std.specs.List.{list_all}
 use Rattle.std.specs.Char.{is_ascii_digit}
 use Rattle.std.specs.Str.{all_ascii_digits}
-use Rattle.std.specs.Str.Parse.{AllDigits, digits_value, ParsesUnsigned}
+use Rattle.std.specs.Str.Parse.{digits_value, ParsesUnsigned}
 use Rattle.std.proofs.lemmas.Str.Parse.{tells_all_ascii_digits, numerals_by_value, parse_gives}
 use Rattle.std.proofs.lemmas.Bool.Decides.{nat_tests}
 use Rattle.std.proofs.lemmas.Int.Digits.{digits_value-lt}
 use Rattle.std.proofs.Math.Nat.{pow-le-pow_right}
 use Rattle.std.proofs.lemmas.Bool.{and_parts}
-use Rattle.template_fill.proofs.Ports.{digit_value-digit}
+use Rattle.list_laws.proofs.Bytes.{digits_all, digits_are}
 use Rattle.page_controls.specs.Controls.{is_count_text}
-
-digits_all : (ds : List ℕ) → list_all is_ascii_digit ds ≡ true → AllDigits 10 ds
-digits_all [] h = tt
-digits_all (d ∷ ds) h =
-    let p = and_parts (is_ascii_digit d) (list_all is_ascii_digit ds) h in
-    let v = digit_value-digit d p.0 in
-    let a = v.0 in let b = v.1 in let e = v.2 in
-    (omega (arith, a, b, e), digits_all ds p.1)
 
 parts : (ds : List ℕ) → is_count_text ds ≡ true → (1 ≤ length ds) × (length ds ≤ 19) × (list_all is_ascii_digit ds ≡ true)
 parts ds h =
@@ -34,10 +26,6 @@ value_small ds h =
     let a : digits_value 10 ds < 10 ^ length ds = digits_value-lt 10 ds (digits_all ds p.2) in
     let b : 10 ^ length ds ≤ 10 ^ 19 = pow-le-pow_right (omega arith) p.1 in
     omega (arith, a, b)
-
-digits_are : (ds : List ℕ) → all_ascii_digits ds ≡ list_all is_ascii_digit ds
-digits_are [] = refl
-digits_are (d ∷ ds) = ap (λ (b : Bool). is_ascii_digit d && b) (digits_are ds)
 
 -- what `parse` gives of such a text
 pub value_parsed : {E : Type 0} (ds : List ℕ) (r : Result ℕ E) → is_count_text ds ≡ true → ParsesUnsigned 64 10 ds r → r ≡ Ok (digits_value 10 ds)

@@ -1,35 +1,14 @@
 -- One item more of a list that is gone through.
-use Rattle.std.proofs.Common.{ℕ, zero, suc, ◌≡◌, ◌+◌, ◌<◌, List, [], ◌∷◌, ◌++◌, length, take, get_or, map, refl, ap, sym, subst, ◌∙◌, append-nil, add-one, arith, Option, Some, None}
+use Rattle.std.proofs.Common.{ℕ, ◌≡◌, ◌+◌, ◌<◌, List, [], ◌∷◌, ◌++◌, length, take, get_or, map, refl, ap, sym, ◌∙◌, append-nil, add-one, Option, Some, None}
 use Rattle.std.proofs.Math.Seq.{take-suc}
-use Rattle.std.specs.List.{AllByRecursion, filter_map}
+use Rattle.std.specs.List.{filter_map}
 use Rattle.std.specs.Option.{option_to_list}
-
-pub map-append : {X Y : Type 0} (f : X → Y) (xs ys : List X) → map f (xs ++ ys) ≡ map f xs ++ map f ys
-map-append f [] ys = refl
-map-append f (x ∷ xs) ys = ap (λ l. f x ∷ l) (map-append f xs ys)
-
-filter_map-append : {X Y : Type 0} (f : X → Option Y) (xs ys : List X) → filter_map f (xs ++ ys) ≡ filter_map f xs ++ filter_map f ys
-filter_map-append {X} {Y} f [] ys = refl
-filter_map-append {X} {Y} f (x ∷ xs) ys = by (f x) refl (filter_map-append f xs ys)
-  where
-    by : (o : Option Y) → f x ≡ o → filter_map f (xs ++ ys) ≡ filter_map f xs ++ filter_map f ys → filter_map f ((x ∷ xs) ++ ys) ≡ filter_map f (x ∷ xs) ++ filter_map f ys
-    by None e ih = rw e ih
-    by (Some y) e ih = rw e (ap (λ l. y ∷ l) ih)
+use Rattle.std.proofs.lemmas.List.{map-append}
+use Rattle.std.proofs.lemmas.List.Elements.{filter_map-append}
 
 -- one item more
 pub taken_more : {X : Type 0} (all : List X) (i : ℕ) (x : X) → i < length all → x ≡ get_or all i x → take (i + 1) all ≡ take i all ++ x ∷ []
 taken_more all i x below at = rw add-one (take-suc all i x below ∙ ap (λ y. take i all ++ y ∷ []) (sym at))
-
-pub listed_map : {X Y : Type 0} (f : X → Y) (all : List X) (i : ℕ) (x : X) (old new : List Y) (y : Y) → i < length all → x ≡ get_or all i x → old ≡ map f (take i all) → y ≡ f x → new ≡ old ++ y ∷ [] → new ≡ map f (take (i + 1) all)
-listed_map {X} {Y} f all i x old new y below at so_far is added =
-    added ∙ ap (λ (l : List Y). l ++ y ∷ []) so_far ∙ ap (λ (z : Y). map f (take i all) ++ z ∷ []) is
-    ∙ sym (ap (map f) (taken_more all i x below at) ∙ map-append f (take i all) (x ∷ []))
-
--- what holds of all holds of each
-pub at_place : {X : Type 0} (P : X → Type 0) (xs : List X) (i : ℕ) (x : X) → AllByRecursion P xs → i < length xs → x ≡ get_or xs i x → P x
-at_place P [] i x a l e = absurd (omega arith)
-at_place P (y ∷ ys) zero x a l e = subst P (sym e) a.0
-at_place P (y ∷ ys) (suc i) x a l e = at_place P ys i x a.1 (omega arith) e
 
 module _ {X Y Z : Type 0} (v : Z → Y) (f : X → Option Y) (all : List X) (i : ℕ) (x : X) (old new : List Z) (below : i < length all) (at : x ≡ get_or all i x) (so_far : map v old ≡ filter_map f (take i all)) where
   more : filter_map f (take (i + 1) all) ≡ filter_map f (take i all) ++ filter_map f (x ∷ [])

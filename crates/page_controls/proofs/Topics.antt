@@ -3,37 +3,33 @@ use Rattle.std.proofs.Common.{ℕ, ◌≡◌, Bool, true, false, cond, not, List
 use Rattle.std.specs.Prelude.{◌≢◌}
 use Rattle.std.specs.List.{Contains, list_any}
 use Rattle.std.proofs.lemmas.Bool.{not-true}
+use Rattle.list_laws.proofs.Options.{some_same}
+use Rattle.rdf_terms.specs.EqualityLaws.{same_iri}
 use Rattle.list_laws.proofs.Members.{Contains-filter_map, Contains-map, any_of, from_filter_map, from_map, none_in, some_of}
 use Rattle.list_laws.proofs.Tests.{not_both_ways}
 use Rattle.rdf_terms.specs.declared.term.Term.{Term}
 use Rattle.rdf_terms.specs.declared.term.Term.TheVariants.{Iri, Blank, Literal}
 use Rattle.rdf_terms.specs.declared.term.Quad.{Quad}
 use Rattle.rdf_terms.specs.Same.{term_eq}
+use Rattle.rdf_terms.proofs.Equality.{term_same, term_self, same_passes}
 use Rattle.page_controls.specs.declared.topic.GraphTopic.{GraphTopic}
 use Rattle.page_controls.specs.Vocabulary.{primary_topic}
 use Rattle.page_controls.specs.Controls.{IsAbout, HasTopic, IsTopic, HasNoTopic}
 use Rattle.page_controls.specs.Parts.{About, iri_of, about_by, about_of, abouts_of, about, abouts, topics_in, has_same_topic, has_other_topic}
-use Rattle.page_controls.proofs.TermTests.{term_same, term_itself, term_is}
 
 -- a quad by its parts
 same_quad : (q : Quad) (graph predicate object : Term) → q.graph ≡ Some graph → q.triple.predicate ≡ predicate → q.triple.object ≡ object →
     q ≡ record { triple = record { subject = q.triple.subject; predicate = predicate; object = object }; graph = Some graph }
 same_quad q graph predicate object e f h = λ i. record { triple = record { subject = q.triple.subject; predicate = f i; object = h i }; graph = e i }
 
-pub iri_same : (a b : List ℕ) → Iri a ≡ Iri b → a ≡ b
-iri_same a b e = cc
-
 IsPart : Option Term → Bool → Term → About → Type 0
 IsPart g b o a = (g ≡ Some a.graph) × (b ≡ true) × ((text : List ℕ) × (o ≡ Iri text) × (a.topic ≡ Iri text))
-
-some_same : (a b : About) → ◌≡◌ {A = Option About} (Some a) (Some b) → a ≡ b
-some_same a b e = cc
 
 about_parts : (g : Option Term) (b : Bool) (o : Term) (a : About) → cond b (about_by g (iri_of o)) None ≡ Some a → IsPart g b o a
 unfolding IsPart
 about_parts g false o a e = absurd (cc)
 about_parts None true o a e = absurd (cc)
-about_parts (Some g) true (Iri x) a e = let s = some_same _ a e in (ap (λ (y : About). Some y.graph) s, refl, (x, refl, ap (λ (y : About). y.topic) (sym s)))
+about_parts (Some g) true (Iri x) a e = let s = some_same e in (ap (λ (y : About). Some y.graph) s, refl, (x, refl, ap (λ (y : About). y.topic) (sym s)))
 about_parts (Some g) true (Blank x) a e = absurd (cc)
 about_parts (Some g) true (Literal x k) a e = absurd (cc)
 
@@ -53,7 +49,7 @@ pub about_listed : (quads : List Quad) (graph : Term) (text : List ℕ) → IsAb
 about_listed quads graph text h =
     let a : About = record { graph = graph; topic = Iri text } in
     Contains-filter_map about_of quads (record { triple = record { subject = h.0; predicate = primary_topic; object = Iri text }; graph = Some graph }) a h.1
-    (ap (λ (b : Bool). cond b (Some a) None) (term_itself primary_topic))
+    (ap (λ (b : Bool). cond b (Some a) None) (term_self primary_topic))
 
 -- ---- the list of what they say
 
@@ -78,17 +74,17 @@ module _ (quads : List Quad) (gs : List GraphTopic) (all : abouts gs ≡ abouts_
   pub own_topic : (own : List ℕ) → list_any (has_same_topic (Iri own)) gs ≡ true → HasTopic quads own
   own_topic own h =
       let r = some_of (has_same_topic (Iri own)) gs h in let l = listed r.0 r.1 in
-      subst (HasTopic quads) (iri_same l.0 own (sym l.1 ∙ term_same _ _ r.2)) l.2
+      subst (HasTopic quads) (same_iri l.0 own (sym l.1 ∙ term_same _ _ r.2)) l.2
 
   not_own : (own : List ℕ) → list_any (has_same_topic (Iri own)) gs ≡ false → HasTopic quads own → ⊥
   not_own own h has =
       let r = found_in own has in
-      not_both_ways _ (any_of (has_same_topic (Iri own)) gs r.0 r.1 (term_is _ _ r.2)) h
+      not_both_ways _ (any_of (has_same_topic (Iri own)) gs r.0 r.1 (same_passes _ _ r.2)) h
 
   other_topic : (t : Term) → list_any (has_other_topic t) gs ≡ true → (text : List ℕ) × (Iri text ≢ t) × HasTopic quads text
   other_topic t h =
       let r = some_of (has_other_topic t) gs h in let l = listed r.0 r.1 in
-      (l.0, (λ e. not_both_ways (term_eq r.0.topic.now t) (term_is _ t (l.1 ∙ e)) (not-true _ r.2)), l.2)
+      (l.0, (λ e. not_both_ways (term_eq r.0.topic.now t) (same_passes _ t (l.1 ∙ e)) (not-true _ r.2)), l.2)
 
   no_other : (t : Term) (text : List ℕ) → list_any (has_other_topic t) gs ≡ false → HasTopic quads text → Iri text ≡ t
   no_other t text h has = by (term_eq (Iri text) t) refl
@@ -117,7 +113,7 @@ module _ (quads : List Quad) (gs : List GraphTopic) (all : abouts gs ≡ abouts_
   pub only_one_topic : (own : List ℕ) (t : Term) → list_any (has_same_topic (Iri own)) gs ≡ false → Contains (topics_in gs) t → list_any (has_other_topic t) gs ≡ false → (topic : List ℕ) × (t ≡ Iri topic) × IsTopic quads own topic
   only_one_topic own t f first other =
       let one = listed_topic t first in
-      (one.0, one.1, inr (not_own own f, (one.2, λ text h. iri_same text one.0 (no_other t text other h ∙ one.1))))
+      (one.0, one.1, inr (not_own own f, (one.2, λ text h. same_iri text one.0 (no_other t text other h ∙ one.1))))
 
 -- the topic is one
 pub one_topic : (quads : List Quad) (own a b : List ℕ) → IsTopic quads own a → IsTopic quads own b → a ≡ b

@@ -13,6 +13,7 @@ use Rattle.std.specs.Cmp.Lexicographic.{texts_ties}
 use Rattle.std.proofs.lemmas.Cmp.{nat_list_cmp_total, on_total, then_total}
 use Rattle.std.proofs.lemmas.Slice.Eq.{bytes_eq-Decides}
 use Rattle.std.proofs.lemmas.Bool.{and_parts}
+use Rattle.list_laws.proofs.Options.{some_same}
 use Rattle.list_laws.proofs.Ascending.{ascending_unmap, less_not_greater, pair_less}
 use Rattle.list_laws.proofs.Members.{Contains-filter_map, Contains-map, from_filter_map, from_map}
 use Rattle.rdf_terms.specs.declared.term.Term.{Term}
@@ -22,13 +23,13 @@ use Rattle.rdf_terms.specs.declared.term.Quad.{Quad}
 use Rattle.rdf_terms.specs.Same.{term_eq}
 use Rattle.rdf_terms.specs.Order.{term_order, bytes_order}
 use Rattle.rdf_terms.specs.OrderLaws.{term_total, term_ties, term_equal}
+use Rattle.rdf_terms.proofs.Equality.{term_same, term_self}
 use Rattle.page_controls.specs.declared.variable.Variable.{Variable}
 use Rattle.page_controls.specs.Vocabulary.{mapped_variable}
 use Rattle.page_controls.specs.Controls.{IsLiteral}
 use Rattle.page_controls.specs.Parts.{form_of, AreControls, triple}
 use Rattle.page_controls.specs.Variables.{Named, named, named_all, texts_in, named_by, named_of, name_order, goes_before, HasVariable, AreVariables}
 use Rattle.page_controls.proofs.Sorted.{from_sorted, in_sorted, sorted_ascends}
-use Rattle.page_controls.proofs.TermTests.{term_same, term_itself}
 use Rattle.page_controls.proofs.Ranged.{partitioned, in_part, part_in, in_order}
 
 pub literal_form : (o : Term) (text : List ℕ) → IsLiteral o text → form_of o ≡ Some text
@@ -36,21 +37,15 @@ literal_form (Iri x) text h = absurd h
 literal_form (Blank x) text h = absurd h
 literal_form (Literal form kind) text h = ap (λ (t : List ℕ). Some t) h
 
-some_text : (a b : List ℕ) → ◌≡◌ {A = Option (List ℕ)} (Some a) (Some b) → a ≡ b
-some_text a b e = cc
-
 pub form_literal : (o : Term) (text : List ℕ) → form_of o ≡ Some text → IsLiteral o text
 form_literal (Iri x) text h = absurd (cc)
 form_literal (Blank x) text h = absurd (cc)
-form_literal (Literal form kind) text h = some_text form text h
-
-some_named : (a b : Named) → ◌≡◌ {A = Option Named} (Some a) (Some b) → a ≡ b
-some_named a b e = cc
+form_literal (Literal form kind) text h = some_same h
 
 named_is : (b : Bool) (subject : Term) (o : Option (List ℕ)) (n : Named) → cond b (named_by subject o) None ≡ Some n → (b ≡ true) × (subject ≡ n.mapping) × (o ≡ Some n.text)
 named_is false subject o n h = absurd (cc)
 named_is true subject None n h = absurd (cc)
-named_is true subject (Some text) n h = let e = some_named _ n h in (refl, ap (λ (x : Named). x.mapping) e, ap (λ (x : Named). Some x.text) e)
+named_is true subject (Some text) n h = let e = some_same h in (refl, ap (λ (x : Named). x.mapping) e, ap (λ (x : Named). Some x.text) e)
 
 at_subject : (t : Triple) (s p : Term) → t.subject ≡ s → t.predicate ≡ p → t ≡ triple s p t.object
 at_subject t s p e f = λ i. record { subject = e i; predicate = f i; object = t.object }
@@ -66,7 +61,7 @@ listed_has quads topic triples are mapping text h =
 pub has_listed : (quads : List Quad) (topic : List ℕ) (triples : List Triple) → AreControls quads topic triples → (mapping : Term) (text : List ℕ) → HasVariable quads topic mapping text → Contains (filter_map named_of triples) (record { mapping = mapping; text = text })
 has_listed quads topic triples are mapping text h =
     Contains-filter_map named_of triples (triple mapping mapped_variable h.0) (record { mapping = mapping; text = text }) ((are.members mapping mapped_variable h.0).1 h.1)
-    (ap (λ (b : Bool). cond b (named_by mapping (form_of h.0)) None) (term_itself mapped_variable) ∙ ap (λ (o : Option (List ℕ)). named_by mapping o) (literal_form h.0 text h.2))
+    (ap (λ (b : Bool). cond b (named_by mapping (form_of h.0)) None) (term_self mapped_variable) ∙ ap (λ (o : Option (List ℕ)). named_by mapping o) (literal_form h.0 text h.2))
 
 -- ---- sorted
 

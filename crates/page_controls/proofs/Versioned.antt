@@ -11,11 +11,11 @@ use Rattle.rdf_terms.specs.declared.term.Term.{Term}
 use Rattle.rdf_terms.specs.declared.term.Term.TheVariants.{Iri, Blank, Literal}
 use Rattle.rdf_terms.specs.declared.term.Triple.{Triple}
 use Rattle.rdf_terms.specs.declared.term.Quad.{Quad}
+use Rattle.rdf_terms.proofs.Equality.{term_same, term_self, same_passes}
 use Rattle.page_controls.specs.Vocabulary.{version_info}
 use Rattle.page_controls.specs.Controls.{Says, IsNumber, IsVersionObject, IsVersion}
 use Rattle.page_controls.specs.Parts.{AreControls, triple}
 use Rattle.page_controls.specs.Versions.{is_number_term, is_version, is_other_version, first_version}
-use Rattle.page_controls.proofs.TermTests.{term_same, term_itself, term_is}
 
 -- ---- numbers
 
@@ -53,7 +53,7 @@ first_gives (t ∷ triples) o some = first_by t triples o (first_gives triples o
 
 module _ (quads : List Quad) (topic : List ℕ) (triples : List Triple) (are : AreControls quads topic triples) where
   version_triple : (s o : Term) (n : ℕ) → IsNumber o n → is_version (triple s version_info o) ≡ true
-  version_triple s o n number = and_from (term_eq version_info version_info) (is_number_term o) (term_itself version_info) (number_term o n number)
+  version_triple s o n number = and_from (term_eq version_info version_info) (is_number_term o) (term_self version_info) (number_term o n number)
 
   stands : (s o : Term) → Says quads topic s version_info o → Contains triples (triple s version_info o)
   stands s o says = (are.members s version_info o).1 says
@@ -91,7 +91,7 @@ module _ (quads : List Quad) (topic : List ℕ) (triples : List Triple) (are : A
       let parts = and_parts (is_version two.0) (not (term_eq two.0.object o)) two.2 in
       let same_first : o ≡ only_one = sym one.3 ∙ only.1 one.0.object (object_said one.0 one.1 one.2) in
       let same_second : two.0.object ≡ only_one = only.1 two.0.object (object_said two.0 two.1 parts.0) in
-      differs (term_eq two.0.object o) (term_is two.0.object o (same_second ∙ sym same_first)) parts.1
+      differs (term_eq two.0.object o) (same_passes two.0.object o (same_second ∙ sym same_first)) parts.1
     where
       differs : (v : Bool) → v ≡ true → not v ≡ true → ⊥
       differs true is no_ = absurd cc

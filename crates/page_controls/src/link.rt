@@ -16,7 +16,7 @@ use crate::vocabulary::next_page;
 use fragment_page::PageFault;
 use rdf_terms::{Term, Triple};
 use std::alloc::Global;
-use template_fill::{AddressFault, Template, WebAddress, expansions_share_authority};
+use template_fill::{AddressFault, Template, WebAddress, laws};
 
 /// The address that an IRI is.
 fn link(alloc: Global, text: &str) -> Result<WebAddress, PageFault>
@@ -38,10 +38,7 @@ fn home_link(alloc: Global, term: &Term, address: &WebAddress) -> Result<WebAddr
     let Term::Iri(iri) = term else {
         return Err(PageFault::ForeignLink);
     };
-    let next = match link(alloc, iri.as_str()) {
-        Ok(next) => next,
-        Err(fault) => return Err(fault),
-    };
+    let next = link(alloc, iri.as_str())?;
     if next.same_authority(address) {
         Ok(next)
     } else {
@@ -62,10 +59,10 @@ fn next_of(
 {
     match objects {
         [] => Ok(None),
-        [only] => match home_link(alloc, &only.object, address) {
-            Ok(next) => Ok(Some(next)),
-            Err(fault) => Err(fault),
-        },
+        [only] => {
+            let next = home_link(alloc, &only.object, address)?;
+            Ok(Some(next))
+        }
         _ => Err(PageFault::TwoNext),
     }
 }
@@ -88,7 +85,7 @@ pub fn is_home(template: &Template, address: &WebAddress) -> bool
     ensures { (text : List ℕ) → read_template text ≡ Some template.now → MatchBool result
         (IsHome template.now (authority_of address.now)) (IsForeign template.now (authority_of address.now)) }
 {
-    expansions_share_authority();
+    laws::expansions_share_authority();
     template.start().same_authority(address)
 }
 

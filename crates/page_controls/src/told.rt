@@ -42,22 +42,10 @@ fn read_told(alloc: Global, controls: &Controls, address: &WebAddress) -> Result
     ensures { Answers (TakesControls controls.now.quads controls.now.topic (authority_of address.now))
         (FirstAmiss controls.now.quads controls.now.topic (authority_of address.now)) result }
 {
-    let count = match read_count(alloc, controls) {
-        Ok(count) => count,
-        Err(fault) => return Err(fault),
-    };
-    let form = match find_form(alloc, controls) {
-        Ok(form) => form,
-        Err(fault) => return Err(fault),
-    };
-    let next = match read_next(alloc, controls, address) {
-        Ok(next) => next,
-        Err(fault) => return Err(fault),
-    };
-    match check_home(&form.template, address) {
-        Ok(()) => {}
-        Err(fault) => return Err(fault),
-    }
+    let count = read_count(alloc, controls)?;
+    let form = find_form(alloc, controls)?;
+    let next = read_next(alloc, controls, address)?;
+    check_home(&form.template, address)?;
     let version = read_version(alloc, controls)?;
     Ok(Told {
         count,
@@ -83,10 +71,8 @@ fn read_topic<'a>(
     let controls = controls_in(alloc, quads, topics, topic)?;
     let marks = first_marks(alloc, quads)?;
     let controls = Controls::new(quads, topic, controls);
-    match read_told(alloc, &controls, address) {
-        Ok(told) => Ok(PageControls { told, marks }),
-        Err(fault) => Err(fault),
-    }
+    let told = read_told(alloc, &controls, address)?;
+    Ok(PageControls { told, marks })
 }
 
 /// Reads what the quads of a body tell of the page that stands under this address (Triple Pattern Fragments, "Metadata"

@@ -1,4 +1,5 @@
 use Rattle.std.proofs.Common.{refl, arith, inl, inr}
+use Rattle.std.proofs.lemmas.Result.{err_from_is_err_and}
 use Rattle.page_controls.specs.Controls.{IsNextObject}
 use Rattle.page_controls.proofs.Counted.{none_of, two_of, only_item, next_fault}
 use Rattle.tpf_base.specs.Addresses.{authority_of}
@@ -9,16 +10,18 @@ returns-in-empty c = λ quads topic m.
     let l = c.in-empty.len_below in
     none_of (IsNextObject quads topic) c.args.objects.now (omega (arith, l)) m
 
-pub returns-in-Ok : goal.returns-in-Ok
-returns-in-Ok c = λ quads topic m.
+pub returns-in-len1 : goal.returns-in-len1
+returns-in-len1 c = λ quads topic m.
     let l = c.in-len1.len_at_least in let h = c.in-len1.len_below in
-    (c.only-item.result.now.object, only_item (IsNextObject quads topic) c.args.objects.now c.only-item.result (omega (arith, l, h)) c.only-item.is m, c.in-Ok.ensures.0, c.in-Ok.ensures.1)
+    (c.only-item.result.now.object, only_item (IsNextObject quads topic) c.args.objects.now c.only-item.result (omega (arith, l, h)) c.only-item.is m, c.in_ok-next.ensures.0, c.in_ok-next.ensures.1)
 
-pub returns-in-Err : goal.returns-in-Err
-returns-in-Err c = λ quads topic m.
+pub returns-in_err-next : goal.returns-in_err-next
+returns-in_err-next c = λ quads topic m.
     let l = c.in-len1.len_at_least in let h = c.in-len1.len_below in
-    next_fault quads topic (authority_of c.args.address.now) c.only-item.result.now.object c.in-Err.fault
-    (only_item (IsNextObject quads topic) c.args.objects.now c.only-item.result (omega (arith, l, h)) c.only-item.is m) c.in-Err.ensures
+    let p = err_from_is_err_and c.from_residual.result c.from_residual.ensures.1 in
+    rw (p.1, p.2)
+    (next_fault quads topic (authority_of c.args.address.now) c.only-item.result.now.object _
+    (only_item (IsNextObject quads topic) c.args.objects.now c.only-item.result (omega (arith, l, h)) c.only-item.is m) c.in_err-next.ensures)
 
 pub returns-in_default : goal.returns-in_default
 returns-in_default c = λ quads topic m.
