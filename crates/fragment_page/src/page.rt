@@ -59,7 +59,8 @@ pub struct Page {
 /// Why a body is no page. The first that applies, in this order, is told.
 #[derive(Clone, Copy, Debug, PartialEq, Eq)]
 pub enum PageFault {
-    /// It is no N-Quads text, or a term's canonical text has more than 4194304 bytes, or a label more than 1024.
+    /// It is no N-Quads text, or a term's canonical text has more than `LONGEST_READ` (4194304) bytes, or a label more
+    /// than `LONGEST_LABEL` (1024).
     Text,
     /// No named graph tells what it is about, or they tell several things and none is the page.
     NoTopic,
