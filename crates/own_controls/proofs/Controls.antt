@@ -6,6 +6,7 @@ use Rattle.std.specs.Str.{bytes_eq}
 use Rattle.std.specs.declared.cmp.Ordering.TheVariants.{Less}
 use Rattle.std.proofs.lemmas.Cmp.{tied_itself}
 use Rattle.std.proofs.lemmas.Slice.Eq.{bytes_eq-Decides}
+use Rattle.rdf_terms.specs.EqualityLaws.{same_iri}
 use Rattle.list_laws.proofs.Ascending.{less_not_equal}
 use Rattle.rdf_terms.specs.declared.term.Term.{Term}
 use Rattle.rdf_terms.specs.declared.term.Term.TheVariants.{Iri, Blank}
@@ -23,9 +24,6 @@ use Rattle.own_controls.proofs.Asking.{asks, asks_object, asks_subject, named, o
 use Rattle.own_controls.specs.Metadata.{Parts, metadata}
 use Rattle.own_controls.proofs.Answering.{node, Said, topic_asked, count_asked, version_asked, next_asked, no_next_asked, form_asked, template_asked, representation_asked, subject_said, predicate_said, object_said}
 use Rattle.own_controls.proofs.Numbers.{count_text, count_value}
-
-same_text : (a b : List ℕ) → Iri a ≡ Iri b → a ≡ b
-same_text a b e = cc
 
 -- the quads of a body: data, and what is said of the page
 abbrev pub body : List Triple → Bool → Bool → Parts → List Quad
@@ -47,7 +45,7 @@ module _ (ts : List Triple) (there back : Bool) (m : Parts) where
   topic_only text h =
       let stands = named_stands ts (metadata there back m) h.0 h.1.0 primary_topic (Iri text) h.1.1 in
       let is = one_passes (asks primary_topic) (metadata there back m) (named (Iri m.graph) (Iri m.graph) primary_topic (Iri m.page)) (named h.0 h.1.0 primary_topic (Iri text)) (topic_asked there back m) (asked h.0 h.1.0 primary_topic (Iri text)) stands in
-      same_text text m.page (same_object h.0 h.1.0 primary_topic (Iri text) (Iri m.graph) (Iri m.graph) primary_topic (Iri m.page) is)
+      same_iri text m.page (same_object h.0 h.1.0 primary_topic (Iri text) (Iri m.graph) (Iri m.graph) primary_topic (Iri m.page) is)
 
   pub topic_is : (own : List ℕ) → IsTopic (body ts there back m) own m.page
   topic_is own =

@@ -1,8 +1,9 @@
 -- Lines behind lines: how their text is read.
 use Rattle.std.proofs.Common.{◌≡◌, ℕ, ◌+◌, ◌-◌, ◌≤◌, inl, inr, Bool, true, false, List, [], ◌∷◌, ◌++◌, length, take, drop, Option, Some, None, if◌then◌else◌, nat_eq, refl, sym, ◌∙◌, ap, subst, arith, append_assoc, length-append}
 use Rattle.std.specs.List.{AllByRecursion}
-use Rattle.std.specs.Option.{option_to_list}
 use Rattle.std.proofs.Math.Seq.{take-append_seam, drop-append_seam}
+use Rattle.nquads_text.proofs.ReadLaws.{reads_append}
+use Rattle.nquads_text.proofs.Lines.{first_by, onto_append}
 use Rattle.rdf_terms.specs.Canon.{canonical_term, canonical_graph, canonical_line, canon}
 use Rattle.rdf_terms.specs.declared.term.Term.{Term}
 use Rattle.rdf_terms.specs.declared.term.Quad.{Quad}
@@ -15,18 +16,9 @@ use Rattle.own_controls.specs.Lines.{EndsLine}
 abbrev Splits : Bool → List ℕ → List ℕ → Type 0
 Splits cr xs ys = lines_from cr (xs ++ 10 ∷ ys) ≡ lines_from cr (xs ++ 10 ∷ []) ++ lines_from false ys
 
-first_by : (lf is_cr : Bool) (b : ℕ) (one two three : List (List ℕ)) → (l : List ℕ) × (ls : List (List ℕ)) × ((if lf then [] ∷ one else (if is_cr then [] ∷ two else onto_first b three)) ≡ l ∷ ls)
-first_by true k b one two three = ([], one, refl)
-first_by false true b one two three = ([], two, refl)
-first_by false false b one two [] = (b ∷ [], [], refl)
-first_by false false b one two (line ∷ lines) = (b ∷ line, lines, refl)
-
 first_line : (xs : List ℕ) → (l : List ℕ) × (ls : List (List ℕ)) × (lines_from false (xs ++ 10 ∷ []) ≡ l ∷ ls)
 first_line [] = ([], [], refl)
 first_line (b ∷ xs) = first_by (nat_eq b 10) (nat_eq b 13) b (lines_from false (xs ++ 10 ∷ [])) (lines_from true (xs ++ 10 ∷ [])) (lines_from false (xs ++ 10 ∷ []))
-
-onto_append : (b : ℕ) (lines more : List (List ℕ)) → (l : List ℕ) × (ls : List (List ℕ)) × (lines ≡ l ∷ ls) → onto_first b (lines ++ more) ≡ onto_first b lines ++ more
-onto_append b lines more f = subst (λ (x : List (List ℕ)). onto_first b (x ++ more) ≡ onto_first b x ++ more) (sym f.2) refl
 
 split_more : (lf is_cr cr : Bool) (b : ℕ) (xs ys : List ℕ) → ((k : Bool) → Splits k xs ys)
     → (if lf then (if cr then lines_from false (xs ++ 10 ∷ ys) else [] ∷ lines_from false (xs ++ 10 ∷ ys)) else (if is_cr then [] ∷ lines_from true (xs ++ 10 ∷ ys) else onto_first b (lines_from false (xs ++ 10 ∷ ys))))
@@ -48,12 +40,8 @@ lines_behind front text (inr h) =
 
 -- ---- their quads
 
-reads_both : (longest : ℕ) (xs ys : List (List ℕ)) (a b : List Quad) → ReadsLines longest xs a → ReadsLines longest ys b → ReadsLines longest (xs ++ ys) (a ++ b)
-reads_both longest [] ys a b h k = subst (λ (l : List Quad). ReadsLines longest ys (l ++ b)) (sym h) k
-reads_both longest (x ∷ xs) ys a b h k = (h.0, h.1 ++ b, h.2, reads_both longest xs ys h.1 b h.3 k, ap (λ (l : List Quad). l ++ b) h.4 ∙ append_assoc (option_to_list h.0) h.1 b)
-
 pub reads_behind : (longest : ℕ) (front text : List ℕ) (a b : List Quad) → EndsLine front → Reads front longest a → Reads text longest b → Reads (front ++ text) longest (a ++ b)
-reads_behind longest front text a b ended h k = subst (λ (l : List (List ℕ)). ReadsLines longest l (a ++ b)) (sym (lines_behind front text ended)) (reads_both longest (lines_of front) (lines_of text) a b h k)
+reads_behind longest front text a b ended h k = subst (λ (l : List (List ℕ)). ReadsLines longest l (a ++ b)) (sym (lines_behind front text ended)) (reads_append longest (lines_of front) (lines_of text) a b h k)
 
 -- ---- terms of a short text are short
 
@@ -85,10 +73,6 @@ terms_short longest (q ∷ qs) h =
     )
 
 -- ---- the text of quads in parts
-
-pub canon_of_both : (xs ys : List Quad) → canon (xs ++ ys) ≡ canon xs ++ canon ys
-canon_of_both [] ys = refl
-canon_of_both (x ∷ xs) ys = ap (λ (l : List ℕ). canonical_line x ++ l) (canon_of_both xs ys) ∙ sym (append_assoc (canonical_line x) (canon xs) (canon ys))
 
 -- ---- pieces
 

@@ -6,6 +6,7 @@ use Rattle.std.specs.Str.{IsUtf8}
 use Rattle.std.specs.Str.Parse.{digits_value}
 use Rattle.std.proofs.lemmas.Bool.{and_from}
 use Rattle.std.proofs.lemmas.Bool.Decides.{nat_tests}
+use Rattle.list_laws.proofs.Bytes.{digit_ascii}
 use Rattle.list_laws.proofs.Tests.{and_first, and_second}
 use Rattle.tpf_base.specs.Decimals.{decimal_text}
 use Rattle.tpf_base.proofs.DecimalTexts.{decimal_text-digits, decimal_text-some, decimal_text-short, decimal_text-long, decimal_text-value}
@@ -32,9 +33,6 @@ count_bound n h =
     let few : length (decimal_text n) ≤ 19 = grind (arith, nat_tests, and_first (nat_le (length (decimal_text n)) 19) _ (and_second (nat_le 1 (length (decimal_text n))) _ h)) in
     let below : n < 10 ^ 19 = decimal_text-long n 19 few in
     omega arith
-
-digit_ascii : (b : ℕ) → is_ascii_digit b ≡ true → is_ascii b ≡ true
-digit_ascii b h = grind (arith, nat_tests)
 
 pub number_utf8 : (n : ℕ) → IsUtf8 (decimal_text n)
 number_utf8 n = utf8-ascii (decimal_text n) (list_all-wider is_ascii_digit is_ascii digit_ascii (decimal_text n) (decimal_text-digits n))

@@ -7,13 +7,14 @@ use Rattle.std.specs.Char.{is_ascii}
 use Rattle.std.proofs.lemmas.List.Folds.{list_all-append}
 use Rattle.rdf_terms.specs.Canon.{canon}
 use Rattle.rdf_terms.specs.declared.term.Quad.{Quad}
+use Rattle.rdf_terms.proofs.Canonical.{canon_of_both}
+use Rattle.rdf_terms.specs.declared.limits.TheConstants.{LONGEST_READ}
 use Rattle.template_fill.specs.Metadata.{topic_quads, form_quads, mapping_quads, count_quads, link_quads, version_quads}
 use Rattle.own_controls.specs.declared.own.OwnControls.{OwnControls}
 use Rattle.own_controls.specs.Metadata.{Parts, metadata, graph_of, mappings, link_target}
 use Rattle.own_controls.specs.Safe.{IsWeb}
 use Rattle.own_controls.specs.Lines.{EndsLine}
 use Rattle.own_controls.specs.Own.{IsOwn}
-use Rattle.own_controls.proofs.Joined.{canon_of_both}
 use Rattle.own_controls.proofs.Web.{web_more}
 
 regrouped : (t f s p o c n b v : List Quad) → t ++ f ++ s ++ p ++ o ++ c ++ n ++ b ++ v ≡ t ++ (f ++ ((s ++ (p ++ o)) ++ (c ++ (n ++ (b ++ v)))))
@@ -79,7 +80,7 @@ module _ (page first base template : List ℕ) (next previous : Option (Bor (Lis
       ∙ sym (canon_parts t form (s ++ (p ++ o)) c n b v) ∙ ap canon (sym (regrouped t form s p o c n b v))
 
   pub is_own : (body lines : List ℕ) (own : OwnControls) → own.count ≡ count → own.version ≡ version → own.template.now ≡ template → own.next ≡ next
-      → body ≡ own.front.now ++ lines → EndsLine own.front.now → lines ≡ canon (metadata (is_some next) (is_some previous) m) → length lines ≤ 4194304
+      → body ≡ own.front.now ++ lines → EndsLine own.front.now → lines ≡ canon (metadata (is_some next) (is_some previous) m) → length lines ≤ LONGEST_READ
       → count ≤ 9999999999999999999 → version ≤ 9999999999999999999
       → IsWeb page → IsWeb first → IsWeb base → template ≡ base ++ codes "{?subject,predicate,object}" → IfSome next (λ t. IsWeb t.now) → IfSome previous (λ t. IsWeb t.now)
       → IsOwn body page own
@@ -105,5 +106,5 @@ module _ (page first base template : List ℕ) (next previous : Option (Bor (Lis
           next = target_web page next page_web next_web;
           previous = target_web page previous page_web previous_web;
         };
-        short = subst (λ (o : Option (Bor (List ℕ))). length (canon (metadata (is_some o) (is_some previous) m)) ≤ 4194304) (sym next_is) (subst (λ (l : List ℕ). length l ≤ 4194304) lines_are short);
+        short = subst (λ (o : Option (Bor (List ℕ))). length (canon (metadata (is_some o) (is_some previous) m)) ≤ LONGEST_READ) (sym next_is) (subst (λ (l : List ℕ). length l ≤ LONGEST_READ) lines_are short);
       }

@@ -1,6 +1,5 @@
 -- Answers about pieces of a text, and numbers.
-use Rattle.std.proofs.Common.{◌≡◌, ◌≢◌, ℕ, suc, ◌≤◌, ◌==◌, ◌++◌, Bool, true, false, List, [], ◌∷◌, length, refl, arith, get_or, Option, Some, None, sym, ◌∙◌, ap, subst, append-nil}
-use Rattle.std.proofs.lemmas.Bool.Decides.{nat_tests}
+use Rattle.std.proofs.Common.{◌≡◌, ◌≢◌, ℕ, ◌≤◌, ◌++◌, true, false, List, [], length, get_or, Option, Some, None, sym, ◌∙◌, ap, subst, append-nil}
 use Rattle.std.specs.Prelude.{IfSome, MatchOption}
 use Rattle.std.specs.Borrow.{Bor}
 use Rattle.std.specs.Str.Parse.{digits_value}
@@ -46,10 +45,3 @@ three_behind bytes a b d two three (Some rest) e f h = e ∙ ap (λ (l : List �
 
 pub none_behind : (bytes text rest : List ℕ) → bytes ≡ text ++ rest → rest ≡ [] → bytes ≡ text
 none_behind bytes text rest e none = e ∙ ap (λ (l : List ℕ). text ++ l) none ∙ append-nil text
-
-pub none_left : (text : List ℕ) (b : Bool) → b ≡ (length text == 0) → b ≡ true → text ≡ []
-none_left [] b e h = refl
-none_left (x ∷ text) b e h = absurd (not_zero (length text) (sym e ∙ h))
-  where
-    not_zero : (n : ℕ) → (suc n == 0) ≡ true → ⊥
-    not_zero n h = grind (arith, nat_tests)

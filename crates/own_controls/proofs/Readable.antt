@@ -1,13 +1,12 @@
 -- The quads of a body are quads that text can give.
-use Rattle.std.proofs.Common.{◌≡◌, ℕ, Bool, true, false, List, [], ◌∷◌, ◌++◌, map, Option, Some, None, refl, lit≤, arith}
+use Rattle.std.proofs.Common.{◌≡◌, ℕ, Bool, true, false, List, [], ◌∷◌, ◌++◌, map, Option, Some, None, refl, lit≤}
 use Rattle.std.specs.Prelude.{codes}
 use Rattle.std.specs.List.{AllByRecursion, list_all}
 use Rattle.std.specs.Char.{is_ascii}
-use Rattle.std.specs.Str.{IsAscii, chars, is_utf8}
-use Rattle.std.proofs.lemmas.Bool.Decides.{nat_tests}
+use Rattle.std.specs.Str.{chars, is_utf8}
 use Rattle.std.proofs.lemmas.Str.{chars-IsAscii, is_utf8-from_IsUtf8}
-use Rattle.std.proofs.lemmas.Str.Ascii.{IsAscii-nil, IsAscii-cons}
-use Rattle.list_laws.proofs.Tests.{and_first, and_second}
+use Rattle.list_laws.proofs.Each.{all_append}
+use Rattle.list_laws.proofs.Bytes.{ascii_list}
 use Rattle.rdf_terms.specs.Iri.{is_iri}
 use Rattle.rdf_terms.specs.Label.{is_label, begins_label, are_label_chars, ends_in_dot}
 use Rattle.rdf_terms.specs.Datatype.{xsd_string, lang_string}
@@ -64,10 +63,6 @@ safe_integer : (n : ℕ) → IsSafe (integer n)
 unfolding integer
 safe_integer n = record { valid = (number_utf8 n, integer_kind); label = tt }
 
-ascii_list : (bytes : List ℕ) → list_all is_ascii bytes ≡ true → IsAscii bytes
-ascii_list [] all = IsAscii-nil
-ascii_list (b ∷ bytes) all = let own = and_first (is_ascii b) _ all in IsAscii-cons b bytes (grind (arith, nat_tests)) (ascii_list bytes (and_second (is_ascii b) _ all))
-
 label_of : (bytes cs : List ℕ) → is_utf8 bytes ≡ true → chars bytes ≡ cs → begins_label cs ≡ true → are_label_chars cs ≡ true → ends_in_dot bytes ≡ false → is_label bytes ≡ true
 unfolding is_label
 label_of bytes cs text is first all dot = rw (text, is, first, all, dot) refl
@@ -93,12 +88,8 @@ safe_o = record { valid = ascii_label (codes "o") refl refl refl refl; label = l
 pub record AreSafe (qs : List Quad) : Type 0 where
   pub each : AllByRecursion IsSafeQuad qs
 
-all_append : (xs ys : List Quad) → AllByRecursion IsSafeQuad xs → AllByRecursion IsSafeQuad ys → AllByRecursion IsSafeQuad (xs ++ ys)
-all_append [] ys h k = k
-all_append (x ∷ xs) ys h k = (h.0, all_append xs ys h.1 k)
-
 joined : {xs ys : List Quad} → AreSafe xs → AreSafe ys → AreSafe (xs ++ ys)
-joined {xs} {ys} h k = record { each = all_append xs ys h.each k.each }
+joined {xs} {ys} h k = record { each = all_append IsSafeQuad xs ys h.each k.each }
 
 -- ---- a safe quad of short terms can be read
 
@@ -228,4 +219,4 @@ safe_metadata there back m h =
     joined with_previous (safe_version m h)
 
 pub safe_body : (ts : List Triple) (there back : Bool) (m : Parts) → AllByRecursion IsGroundTriple ts → AllByRecursion IsValidTriple ts → HasSafeTexts m → AllByRecursion IsSafeQuad (map in_default_graph ts ++ metadata there back m)
-safe_body ts there back m classes valid h = all_append (map in_default_graph ts) (metadata there back m) (safe_data ts classes valid) (safe_metadata there back m h).each
+safe_body ts there back m classes valid h = all_append IsSafeQuad (map in_default_graph ts) (metadata there back m) (safe_data ts classes valid) (safe_metadata there back m h).each

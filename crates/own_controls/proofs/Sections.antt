@@ -5,12 +5,12 @@ use Rattle.std.specs.Prelude.{codes, IfSome}
 use Rattle.std.specs.Borrow.{Bor}
 use Rattle.rdf_terms.specs.Canon.{canonical_form, canonical_term, canon}
 use Rattle.rdf_terms.specs.declared.term.Term.TheVariants.{Iri, Blank}
+use Rattle.rdf_terms.proofs.Canonical.{canon_of_both}
 use Rattle.tpf_base.specs.Decimals.{decimal_text}
 use Rattle.template_fill.specs.Metadata.{foaf, void, hydra, rdf, owl, plain, integer, topic_quads, form_quads, mapping_quads, count_quads, link_quads, version_quads}
 use Rattle.own_controls.specs.declared.lines.LineText.{LineText}
 use Rattle.own_controls.specs.Metadata.{graph_of, mappings}
 use Rattle.own_controls.specs.Lines.{graph_end, line_text, lines_text}
-use Rattle.own_controls.proofs.Joined.{canon_of_both}
 use Rattle.own_controls.proofs.Pieces.{behind_same}
 use Rattle.own_controls.proofs.Written.{iri_holds, section_holds, plain_holds, integer_holds, number_holds, two_line, subject_line, object_line, fixed_line}
 

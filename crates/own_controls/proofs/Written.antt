@@ -5,6 +5,7 @@ use Rattle.std.specs.List.{list_all}
 use Rattle.std.specs.Char.{is_ascii_digit}
 use Rattle.std.proofs.lemmas.Bool.Decides.{nat_tests}
 use Rattle.std.proofs.lemmas.List.Folds.{list_all-append}
+use Rattle.std.proofs.lemmas.Bool.{not-true}
 use Rattle.list_laws.proofs.Tests.{and_first, and_second}
 use Rattle.rdf_terms.specs.Canon.{is_marked, after_mark, canonical_form, canonical_term, canonical_line}
 use Rattle.rdf_terms.specs.Iri.{is_iri_byte, has_scheme}
@@ -101,14 +102,10 @@ byte_same : (t : Bool) (b : ℕ) (more : List ℕ) → t ≡ false → (if t the
 byte_same true b more e = absurd (cc)
 byte_same false b more e = refl
 
-not_true : (t : Bool) → not t ≡ true → t ≡ false
-not_true true h = absurd (cc)
-not_true false h = refl
-
 plain_form : (form : List ℕ) → list_all (λ b. not (is_marked b)) form ≡ true → canonical_form form ≡ form
 plain_form [] h = refl
 plain_form (b ∷ form) h =
-    byte_same (is_marked b) b (canonical_form form) (not_true (is_marked b) (and_first (not (is_marked b)) _ h))
+    byte_same (is_marked b) b (canonical_form form) (not-true (is_marked b) (and_first (not (is_marked b)) _ h))
     ∙ ap (λ (l : List ℕ). b ∷ l) (plain_form form (and_second (not (is_marked b)) _ h))
 
 digit_plain : (b : ℕ) → is_ascii_digit b ≡ true → not (is_marked b) ≡ true

@@ -1,6 +1,7 @@
 -- A body that ends with the lines that a page of tpf's own server ends with.
 use Rattle.std.specs.Prelude.{ℕ, ◌≡◌, ◌≤◌, Bool, List, ◌++◌, length, is_some, IfSome}
 use Rattle.rdf_terms.specs.Canon.{canon}
+use Rattle.rdf_terms.specs.declared.limits.TheConstants.{LONGEST_READ}
 use Rattle.own_controls.specs.Metadata.{Parts, metadata}
 use Rattle.own_controls.specs.Safe.{HasSafeTexts}
 use Rattle.own_controls.specs.Lines.{EndsLine}
@@ -20,4 +21,4 @@ pub record IsOwn (bytes text : List ℕ) (own : OwnControls) : Type 0 where
   pub version : parts.version ≡ own.version
   pub early : parts.version ≤ 9999999999999999999
   pub safe : HasSafeTexts parts
-  pub short : length (canon (metadata (is_some own.next) back parts)) ≤ 4194304
+  pub short : length (canon (metadata (is_some own.next) back parts)) ≤ LONGEST_READ

@@ -16,11 +16,8 @@ use crate::section::{
     behind_counts, behind_form, behind_link, behind_mappings, behind_topic, behind_version,
 };
 use crate::start::{Halves, cut, line_ending};
-use rdf_terms::{has_scheme, is_iri};
+use rdf_terms::{LONGEST_READ, has_scheme, is_iri};
 use template_fill::WebAddress;
-
-/// The most bytes that the metadata may have.
-const LONGEST: usize = 4194304;
 
 /// What stands behind the base in the template.
 const PLACES: &str = "{?subject,predicate,object}";
@@ -224,7 +221,7 @@ pub fn own_controls<'a>(body: &'a [u8], address: &WebAddress) -> Option<OwnContr
 {
     let page = address.text();
     let Halves { front, lines } = cut(body, page)?;
-    if lines.len() > LONGEST {
+    if lines.len() > LONGEST_READ {
         return None;
     }
     let ending = line_ending(lines, page)?;

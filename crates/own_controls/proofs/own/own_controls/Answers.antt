@@ -16,7 +16,7 @@ returns c =
     let version = c.in_ok-version.version in
     let lines = text_is page texts.first.now texts.base.now texts.template.now next previous count version c.in_ok-front.field-0.lines.now c.in_ok-counts.counts.now c.in_ok-told.told.rest.now c.in_ok-next.next.rest.now c.in_ok-previous.previous.rest.now
     c.in_ok-counts.ensures c.in_ok-told.ensures.lines (c.in_ok-next.ensures.line (codes "next") refl) (c.in_ok-previous.ensures.line (codes "previous") refl) (c.in_ok-version.ensures.line page c.in_ok-ending.ensures) in
-    let short = c.if-lines-gt-LONGEST.false in
+    let short = c.if-lines-gt-LONGEST_READ.false in
     subst (λ (text : List ℕ). IsOwn c.args.body.now text (record { front = c.in_ok-front.field-0.front; count = count; template = texts.template; next = next; version = version })) c.text-page.ensures.text
     (is_own page texts.first.now texts.base.now texts.template.now next previous count version c.args.body.now c.in_ok-front.field-0.lines.now (record { front = c.in_ok-front.field-0.front; count = count; template = texts.template; next = next; version = version }) refl refl refl refl
     c.in_ok-front.ensures.whole c.in_ok-front.ensures.front lines (omega (arith, short)) c.in_ok-told.ensures.few c.in_ok-version.ensures.early web c.in_ok-texts.ensures.first c.in_ok-texts.ensures.base c.in_ok-texts.ensures.template
