@@ -8,6 +8,7 @@ use Rattle.rdf_terms.specs.Canon.{canon}
 use Rattle.rdf_terms.specs.declared.term.Term.{Term}
 use Rattle.rdf_terms.specs.declared.term.Triple.{Triple}
 use Rattle.rdf_terms.specs.declared.term.Quad.{Quad}
+use Rattle.rdf_terms.specs.declared.limits.TheConstants.{LONGEST_READ}
 use Rattle.nquads_text.proofs.RoundTrip.{read_again}
 use Rattle.tpf_base.specs.Addresses.{Address, IsAddress, address_text, authority_of}
 use Rattle.template_fill.specs.Bodies.{in_default_graph}
@@ -80,8 +81,8 @@ own_page bytes address own quads page h read_data triples form next count versio
     let all = quads ++ named in
     let same : body ts there h.back m ≡ all = ap (λ (l : List Quad). l ++ named) (data_again quads read_data.default) in
     let data_are = data_alone quads named (all_named there h.back m) in
-    let text = read_again 4194304 named (all_readable 4194304 named (safe_metadata there h.back m h.safe).each (terms_short 4194304 named h.short)) in
-    let read = reads_behind 4194304 own.front.now (canon named) quads named h.front read_data.body text in
+    let text = read_again LONGEST_READ named (all_readable LONGEST_READ named (safe_metadata there h.back m h.safe).each (terms_short LONGEST_READ named h.short)) in
+    let read = reads_behind LONGEST_READ own.front.now (canon named) quads named h.front read_data.body text in
     record {
       quads = all;
       topic = m.page;

@@ -2,6 +2,7 @@
 use Rattle.std.proofs.Common.{ℕ, ◌≡◌, ◌<◌, Bool, true, false, cond, nat_eq, ltb, List, refl, sym, ap, subst, ◌∙◌, arith, inl, inr, Result, Ok, Err}
 use Rattle.rdf_terms.specs.declared.term.Quad.{Quad}
 use Rattle.rdf_terms.specs.declared.term.Triple.{Triple}
+use Rattle.rdf_terms.specs.declared.limits.TheConstants.{LONGEST_READ}
 use Rattle.nquads_text.proofs.ReadLaws.{reads_text, not_both}
 use Rattle.tpf_base.specs.Addresses.{Address, address_text, authority_of}
 use Rattle.template_fill.proofs.Reading.{one_address}
@@ -25,7 +26,7 @@ ok_same : {E : Type 0} (x y : List Quad) → ◌≡◌ {A = Result (List Quad) E
 ok_same x y e = cc
 
 pub one_body : (bytes : List ℕ) (a b : List Quad) → IsBody bytes a → IsBody bytes b → a ≡ b
-one_body bytes a b h k = ok_same a b (sym (reads_text 4194304 bytes a h) ∙ reads_text 4194304 bytes b k)
+one_body bytes a b h k = ok_same a b (sym (reads_text LONGEST_READ bytes a h) ∙ reads_text LONGEST_READ bytes b k)
 
 module _ (bytes : List ℕ) (address : Address) where
   same_quads : (a b : List Quad) (s t : List ℕ) → HasControls bytes address a s → HasControls bytes address b t → a ≡ b
@@ -54,7 +55,7 @@ module _ (bytes : List ℕ) (address : Address) where
   -- ---- no page is at fault
 
   pub not_wrong : (page : Page) → Takes bytes address page → (fault : PageFault) → IsWrong bytes address fault → ⊥
-  not_wrong page h faults.Text w = let c = h.controls in not_both 4194304 bytes h.quads w.0 w.1 c.body w.2
+  not_wrong page h faults.Text w = let c = h.controls in not_both LONGEST_READ bytes h.quads w.0 w.1 c.body w.2
   not_wrong page h faults.NoTopic w = let c = h.controls in w.2 h.topic (subst (λ (q : List Quad). IsTopic q (address_text address) h.topic) (one_body bytes h.quads w.0 c.body w.1) c.is_topic)
   not_wrong page h faults.NoCount w = count_there h.quads h.topic page.count h.count (found _ h.quads h.topic h.controls w)
   not_wrong page h faults.CountText w = count_good h.quads h.topic page.count h.count (found _ h.quads h.topic h.controls w)
@@ -110,7 +111,7 @@ module _ (bytes : List ℕ) (address : Address) where
   amiss_wrong quads topic c faults.OutOfMemory h = absurd h
 
   no_wrong : (quads : List Quad) (topic : List ℕ) → HasControls bytes address quads topic → (other : PageFault) → (IsAmiss quads topic (authority_of address) other → ⊥) → IsWrong bytes address other → ⊥
-  no_wrong quads topic c faults.Text not w = not_both 4194304 bytes quads w.0 w.1 c.body w.2
+  no_wrong quads topic c faults.Text not w = not_both LONGEST_READ bytes quads w.0 w.1 c.body w.2
   no_wrong quads topic c faults.NoTopic not w = w.2 topic (subst (λ (q : List Quad). IsTopic q (address_text address) topic) (one_body bytes quads w.0 c.body w.1) c.is_topic)
   no_wrong quads topic c faults.NoCount not w = not (found _ quads topic c w)
   no_wrong quads topic c faults.CountText not w = not (found _ quads topic c w)
@@ -131,7 +132,7 @@ module _ (bytes : List ℕ) (address : Address) where
   no_body fault e w = subst (Faults bytes address) (sym e) record { wrong = w; first = λ other l. absurd (omega arith) }
 
   only_text : (quads : List Quad) → IsBody bytes quads → (other : PageFault) → place_of other < 1 → IsWrong bytes address other → ⊥
-  only_text quads body faults.Text l w = not_both 4194304 bytes quads w.0 w.1 body w.2
+  only_text quads body faults.Text l w = not_both LONGEST_READ bytes quads w.0 w.1 body w.2
   only_text quads body faults.NoTopic l w = absurd (omega arith)
   only_text quads body faults.NoCount l w = absurd (omega arith)
   only_text quads body faults.CountText l w = absurd (omega arith)

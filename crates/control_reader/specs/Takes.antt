@@ -1,6 +1,7 @@
 -- The page that a body gives, and the first reason why it gives none.
 use Rattle.std.specs.Prelude.{ℕ, ◌≡◌, ◌<◌, ◌⊎◌, List, Some}
 use Rattle.rdf_terms.specs.declared.term.Quad.{Quad}
+use Rattle.rdf_terms.specs.declared.limits.TheConstants.{LONGEST_READ}
 use Rattle.nquads_text.specs.declared.fault.Why.{Why}
 use Rattle.nquads_text.specs.Reads.{Reads, FirstFault}
 use Rattle.tpf_base.specs.Addresses.{Address, address_text, authority_of}
@@ -12,9 +13,9 @@ use Rattle.page_controls.specs.Controls.{IsTopic, HasNoTopic, IsCount, HasNoCoun
 use Rattle.page_controls.specs.Contents.{page_triples, HasBlankData}
 use Rattle.page_controls.specs.Faults.{FindsForm, HasForeignLink, place_of}
 
--- the quads of a body whose terms have canonical texts of at most 4194304 bytes
+-- the quads of a body whose terms have canonical texts of at most LONGEST_READ bytes
 abbrev pub IsBody : List ℕ → List Quad → Type 0
-IsBody bytes quads = Reads bytes 4194304 quads
+IsBody bytes quads = Reads bytes LONGEST_READ quads
 
 -- its topic, where it stands under this address
 pub record HasControls (bytes : List ℕ) (address : Address) (quads : List Quad) (topic : List ℕ) : Type 0 where
@@ -44,7 +45,7 @@ Finds bytes address P = (quads : List Quad) × (topic : List ℕ) × HasControls
 
 -- what each fault says; want of memory says nothing of the body
 abbrev pub IsWrong : List ℕ → Address → PageFault → Type 0
-IsWrong bytes address Text = (line : ℕ) × (why : Why) × FirstFault bytes 4194304 line why
+IsWrong bytes address Text = (line : ℕ) × (why : Why) × FirstFault bytes LONGEST_READ line why
 IsWrong bytes address NoTopic = (quads : List Quad) × IsBody bytes quads × HasNoTopic quads (address_text address)
 IsWrong bytes address NoCount = Finds bytes address HasNoCount
 IsWrong bytes address CountText = Finds bytes address HasBadCount
@@ -62,4 +63,4 @@ pub record Faults (bytes : List ℕ) (address : Address) (fault : PageFault) : T
 
 -- the body is no text
 abbrev pub WhyNoBody : List ℕ → PageFault → Type 0
-WhyNoBody bytes fault = (fault ≡ Text) × ((line : ℕ) × (why : Why) × FirstFault bytes 4194304 line why)
+WhyNoBody bytes fault = (fault ≡ Text) × ((line : ℕ) × (why : Why) × FirstFault bytes LONGEST_READ line why)

@@ -2,7 +2,7 @@
 ghost use Rattle.control_reader.specs.Authorities.{PagesKeepAuthority};
 ghost use Rattle.control_reader.specs.Laws.{OnePage, OneFault, NoPageAtFault};
 
-use template_fill::{authorities_are_hosts_and_ports, expansions_share_authority};
+use template_fill::laws::{authorities_are_hosts_and_ports, expansions_share_authority};
 
 /// A body is one page at most under an address, or has one first fault at most, and never both.
 pub fn a_body_is_one_page()

@@ -15,7 +15,7 @@
 
 mod ascending;
 mod contents;
-mod laws;
+pub mod laws;
 mod own;
 mod read;
 

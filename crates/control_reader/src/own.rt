@@ -11,12 +11,11 @@ ghost use Rattle.control_reader.specs.Blanks.{TakesTriples};
 
 use crate::ascending::ascend;
 use crate::contents::{take_all, take_triples};
-use crate::read::LONGEST;
 use fragment_page::{Page, PageFault, TripleList};
 use nquads_text::{TextFault, read_all};
 use own_controls::own_controls;
 use page_controls::{first_marks, is_home};
-use rdf_terms::{Quad, Triple};
+use rdf_terms::{LONGEST_READ, Quad, Triple};
 use std::alloc::Global;
 use template_fill::{AddressFault, Form, Template, TemplateFault, WebAddress};
 use tpf_base::{OutOfMemory, Text};
@@ -51,7 +50,7 @@ fn are_data(quads: &[Quad]) -> bool
 fn data_quads(alloc: Global, front: &[u8]) -> Result<Vec<Quad>, NotOwn>
     ensures { IfOk result (λ v. IsData front.now v.items) }
 {
-    match read_all(alloc, front, LONGEST) {
+    match read_all(alloc, front, LONGEST_READ) {
         Err(TextFault::OutOfMemory) => Err(NotOwn::OutOfMemory),
         Err(TextFault::Bad { .. }) => Err(NotOwn::Other),
         Ok(quads) => {
@@ -80,10 +79,7 @@ fn distinct_triples(alloc: Global, quads: Vec<Quad>) -> Result<Vec<Triple>, Page
 fn data_triples(alloc: Global, front: &[u8]) -> Result<Vec<Triple>, NotOwn>
     ensures { IfOk result (λ v. (quads : List Quad) × IsData front.now quads × TakesTriples quads v.items) }
 {
-    let quads = match data_quads(alloc, front) {
-        Ok(quads) => quads,
-        Err(fault) => return Err(fault),
-    };
+    let quads = data_quads(alloc, front)?;
     match distinct_triples(alloc, quads) {
         Ok(triples) => Ok(triples),
         Err(PageFault::OutOfMemory) => Err(NotOwn::OutOfMemory),
@@ -112,10 +108,7 @@ fn has_own_names(template: &Template) -> bool
 fn own_form(alloc: Global, text: &str, address: &WebAddress) -> Result<Form, NotOwn>
     ensures { IfOk result (IsOwnForm text.now (authority_of address.now)) }
 {
-    let template = match template_of(alloc, text) {
-        Ok(template) => template,
-        Err(fault) => return Err(fault),
-    };
+    let template = template_of(alloc, text)?;
     if !has_own_names(&template) {
         return Err(NotOwn::Other);
     }
@@ -159,10 +152,10 @@ fn own_next(
 {
     match next {
         None => Ok(None),
-        Some(text) => match home_address(alloc, text, address) {
-            Ok(next) => Ok(Some(next)),
-            Err(fault) => Err(fault),
-        },
+        Some(text) => {
+            let next = home_address(alloc, text, address)?;
+            Ok(Some(next))
+        }
     }
 }
 
@@ -173,20 +166,11 @@ pub(crate) fn read_own(alloc: Global, body: &[u8], address: &WebAddress) -> Resu
     let Some(own) = own_controls(body, address) else {
         return Err(NotOwn::Other);
     };
-    let triples = match data_triples(alloc, own.front) {
-        Ok(triples) => TripleList::from_vec(triples),
-        Err(fault) => return Err(fault),
-    };
-    let form = match own_form(alloc, own.template, address) {
-        Ok(form) => form,
-        Err(fault) => return Err(fault),
-    };
-    let next = match own_next(alloc, own.next, address) {
-        Ok(next) => next,
-        Err(fault) => return Err(fault),
-    };
+    let triples = data_triples(alloc, own.front)?;
+    let form = own_form(alloc, own.template, address)?;
+    let next = own_next(alloc, own.next, address)?;
     Ok(Page {
-        triples,
+        triples: TripleList::from_vec(triples),
         count: own.count,
         next,
         form,

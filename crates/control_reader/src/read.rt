@@ -11,18 +11,15 @@ use crate::own::{NotOwn, read_own};
 use fragment_page::{Page, PageFault, TripleList};
 use nquads_text::{TextFault, read_all};
 use page_controls::{PageControls, Told, read_controls};
-use rdf_terms::Quad;
+use rdf_terms::{LONGEST_READ, Quad};
 use std::alloc::Global;
 use template_fill::WebAddress;
-
-/// The most bytes that the canonical text of a term may have.
-pub(crate) const LONGEST: usize = 4194304;
 
 /// The quads of a body.
 fn read_quads(alloc: Global, body: &[u8]) -> Result<Vec<Quad>, PageFault>
     ensures { Answers (λ v. IsBody body.now v.items) (WhyNoBody body.now) result }
 {
-    match read_all(alloc, body, LONGEST) {
+    match read_all(alloc, body, LONGEST_READ) {
         Ok(quads) => Ok(quads),
         Err(TextFault::Bad { .. }) => Err(PageFault::Text),
         Err(TextFault::OutOfMemory) => Err(PageFault::OutOfMemory),
@@ -33,19 +30,11 @@ fn read_quads(alloc: Global, body: &[u8]) -> Result<Vec<Quad>, PageFault>
 fn read_any(alloc: Global, body: &[u8], address: &WebAddress) -> Result<Page, PageFault>
     ensures { Answers (Takes body.now address.now) (Faults body.now address.now) result }
 {
-    let quads = match read_quads(alloc, body) {
-        Ok(quads) => quads,
-        Err(fault) => return Err(fault),
-    };
-    let parts = match read_controls(alloc, quads.as_slice(), address) {
-        Ok(parts) => parts,
-        Err(fault) => return Err(fault),
-    };
+    let quads = read_quads(alloc, body)?;
+    let parts = read_controls(alloc, quads.as_slice(), address)?;
     let PageControls { told, marks } = parts;
-    let triples = match take_triples(alloc, quads, marks) {
-        Ok(triples) => TripleList::from_vec(triples),
-        Err(fault) => return Err(fault),
-    };
+    let triples = take_triples(alloc, quads, marks)?;
+    let triples = TripleList::from_vec(triples);
     let Told {
         count,
         form,
