@@ -3,7 +3,7 @@ use Rattle.std.proofs.Common.{◌≡◌, ℕ, List, [], ◌∷◌, ◌++◌, Boo
 use Rattle.std.specs.Prelude.{codes}
 use Rattle.std.specs.List.{list_all}
 use Rattle.std.proofs.lemmas.Bool.Decides.{nat_tests}
-use Rattle.list_laws.proofs.Tests.{and_first, and_second}
+use Rattle.list_laws.proofs.Tests.{and_first, and_second, equals_itself}
 use Rattle.rdf_terms.specs.Iri.{is_iri_byte, has_scheme}
 use Rattle.tpf_base.specs.Addresses.{Address, IsAddress, address_text, target_of}
 use Rattle.template_fill.specs.ReadAddress.{Spelled, read_spelled, normal, with_target}
@@ -11,8 +11,9 @@ use Rattle.template_fill.specs.WebAddress.{IsNormal}
 use Rattle.template_fill.specs.Templates.{Part, before, after, sections_after, parts_of, part_of, shape_of, names_of, is_name, begins_with_slash, start_of, read_template, expansion}
 use Rattle.template_fill.specs.Pages.{server_template, template_text}
 use Rattle.template_fill.proofs.Addresses.{is_lower-same}
+use Rattle.template_fill.proofs.Authorities.{same_parts}
 use Rattle.own_controls.proofs.Addresses.{base_normal, base_web}
-use Rattle.control_laws.proofs.LawAddresses.{base_parts, normal_spelled}
+use Rattle.control_laws.proofs.LawAddresses.{normal_spelled}
 
 differs : (p : ℕ → Bool) (b x : ℕ) → p b ≡ true → p x ≡ false → (b == x) ≡ false
 differs p b x passes fails =
@@ -22,9 +23,6 @@ differs p b x passes fails =
       | false ↦ λ _. refl
     ] in
     go (b == x) refl
-
-equals_itself : (x : ℕ) → (x == x) ≡ true
-equals_itself x = grind (arith, nat_tests)
 
 -- a text is cut at a byte that it has not
 cut_at : (p : ℕ → Bool) (x : ℕ) → p x ≡ false → (text more : List ℕ) → list_all p text ≡ true → (before x (text ++ x ∷ more) ≡ text) × (after x (text ++ x ∷ more) ≡ Some more)
@@ -61,7 +59,7 @@ template_reads base h =
     let spelled = normal_spelled base.host (target_of base) base.port n in
     let start = start_is (address_text base) (record { host = base.host; port = base.port; rest = target_of base }) spelled slash in
     read_of_parts (template_text base) (address_text base) (Some (codes "?subject,predicate,object}")) (record { host = base.host; port = base.port; rest = target_of base }) (server_template base).parts cut.0 cut.1 start (server_parts base)
-    ∙ template_at base _ (normal_same base.host (target_of base) base.port n ∙ base_parts base h)
+    ∙ template_at base _ (normal_same base.host (target_of base) base.port n ∙ same_parts (address_text base) base h)
 
 pub home_is : (base : Address) → expansion (server_template base) [] ≡ address_text base
 unfolding expansion

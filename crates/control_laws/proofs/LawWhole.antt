@@ -12,6 +12,7 @@ use Rattle.rdf_terms.specs.Canon.{canon}
 use Rattle.rdf_terms.specs.Triples.{IsGroundTriple}
 use Rattle.rdf_terms.specs.Valid.{IsValidTriple}
 use Rattle.rdf_terms.specs.Fragments.{last_page_of}
+use Rattle.rdf_terms.specs.declared.limits.TheConstants.{LONGEST_READ}
 use Rattle.nquads_text.specs.Reads.{Reads}
 use Rattle.nquads_text.proofs.ReadLaws.{all_readable as what_is_read}
 use Rattle.nquads_text.proofs.RoundTrip.{read_again}
@@ -23,6 +24,7 @@ use Rattle.template_fill.specs.Metadata.{Config}
 use Rattle.template_fill.specs.Configurations.{IsValidDataSet}
 use Rattle.template_fill.proofs.Histories.{versions}
 use Rattle.template_fill.specs.Bodies.{version_of, in_default_graph, page_quads, page_body}
+use Rattle.template_fill.proofs.PageTexts.{page_is_longer}
 use Rattle.fragment_page.specs.declared.page.Page.{Page}
 use Rattle.page_controls.specs.Contents.{firsts, page_triples}
 use Rattle.page_controls.specs.Controls.{IsTopic, IsCount, IsLeastForm, IsFormOf, IsNext, IsHome, IsVersion}
@@ -31,7 +33,7 @@ use Rattle.control_laws.specs.Law.{IsWithinLimits, IsNextOf, IsServerForm, IsPag
 use Rattle.page_controls.proofs.Fine.{one_version}
 use Rattle.own_controls.proofs.Addresses.{base_web}
 use Rattle.own_controls.proofs.Web.{web_more}
-use Rattle.control_laws.proofs.LawAddresses.{extends_web, page_longer, longer, longer_is, same_authority}
+use Rattle.control_laws.proofs.LawAddresses.{extends_web, longer, longer_is, same_authority}
 use Rattle.own_controls.proofs.Controls.{body, texts_of, topic_is, count_is, next_is, no_next_is, least_is, version_is}
 use Rattle.control_laws.proofs.LawData.{page_firsts, page_all, default_data, no_blank_data}
 use Rattle.control_laws.proofs.LawMetadata.{Parts, metadata, parts_for, metadata_is}
@@ -47,16 +49,16 @@ use Rattle.control_laws.proofs.LawTemplates.{template_reads, home_is}
 safe_texts : (config : Config) (s : Selection) (k count version : ℕ) → IsAddress (address_text config.base) config.base → HasSafeTexts (parts_for config s k count version)
 unfolding parts_for
 safe_texts config s k count version h =
-    let page = extends_web config.base (page_address config.base s k) h (page_longer config.base s k) in
+    let page = extends_web config.base (page_address config.base s k) h (page_is_longer config.base s k) in
     let base = base_web config.base h in
     record {
       graph = web_more (page_address config.base s k) (codes "#metadata") page refl refl;
       page = page;
-      first = extends_web config.base (page_address config.base s 1) h (page_longer config.base s 1);
+      first = extends_web config.base (page_address config.base s 1) h (page_is_longer config.base s 1);
       base = base;
       template = rw (list_all-append is_ascii (address_text config.base) (codes "{?subject,predicate,object}"), base.ascii) refl;
-      next = extends_web config.base (page_address config.base s (k + 1)) h (page_longer config.base s (k + 1));
-      previous = extends_web config.base (page_address config.base s (k - 1)) h (page_longer config.base s (k - 1));
+      next = extends_web config.base (page_address config.base s (k + 1)) h (page_is_longer config.base s (k + 1));
+      previous = extends_web config.base (page_address config.base s (k - 1)) h (page_is_longer config.base s (k - 1));
     }
 
 parts_next : (config : Config) (s : Selection) (k count version : ℕ) → (parts_for config s k count version).next ≡ page_address config.base s (k + 1)
@@ -96,7 +98,7 @@ next_given : (ts : List Triple) (back : Bool) (m : Parts) (config : Config) (s :
 next_given ts back m config s k last authority None h is own more = no_next_is ts (nat_lt k last) back m (le-ltb k last more) authority
 next_given ts back m config s k last authority (Some next) h is own more =
     next_is ts (nat_lt k last) back m (lt-ltb k last more.0) authority next (subst (λ (text : List ℕ). IsAddress text next) (sym is) more.1)
-    (same_authority config.base next (page_address config.base s (k + 1)) h (page_longer config.base s (k + 1)) more.1 ∙ sym own)
+    (same_authority config.base next (page_address config.base s (k + 1)) h (page_is_longer config.base s (k + 1)) more.1 ∙ sym own)
 
 -- ---- the data
 
@@ -148,12 +150,12 @@ module _ (history : List (List Triple)) (version : ℕ) (config : Config) (s : S
   m_version = parts_version config s k count version
 
   -- the body is read as these quads
-  reads : AllByRecursion (HasShortTerms 4194304) (page_quads history version config s k) → IsBody (page_body history version config s k) quads
-  reads short = rw text_is (read_again 4194304 quads (all_readable 4194304 quads safe (subst (AllByRecursion (HasShortTerms 4194304)) quads_are short)))
+  reads : AllByRecursion (HasShortTerms LONGEST_READ) (page_quads history version config s k) → IsBody (page_body history version config s k) quads
+  reads short = rw text_is (read_again LONGEST_READ quads (all_readable LONGEST_READ quads safe (subst (AllByRecursion (HasShortTerms LONGEST_READ)) quads_are short)))
 
   -- and as no others
   only_quads : (read : List Quad) → IsBody (page_body history version config s k) read → read ≡ quads
-  only_quads read h = only_reading 4194304 quads read safe (subst (λ (text : List ℕ). Reads text 4194304 read) text_is h)
+  only_quads read h = only_reading LONGEST_READ quads read safe (subst (λ (text : List ℕ). Reads text LONGEST_READ read) text_is h)
 
   taken : (address : Address) (page : Page) → IsVersionNumber version → IsWithinLimits history version config s k → authority_of address ≡ authority_of config.base → IsPageOf (version_of history version) version config s k page → Takes (page_body history version config s k) address page
   taken address page numbered limits own is = record {
@@ -182,9 +184,9 @@ module _ (history : List (List Triple)) (version : ℕ) (config : Config) (s : S
       let linked = moved (λ qs text. IsNext qs text (authority_of address) page.next) t.quads quads t.topic m.page is topic t.next in
       let said = moved (λ qs text. IsVersion qs text page.version) t.quads quads t.topic m.page is topic t.version in
       let form = form_taken config.base m t.texts page.form web (parts_template config s k count version) (texts_taken ts there back m t.texts least) t.form in
-      let short = all_short 4194304 t.quads (what_is_read (page_body history version config s k) 4194304 t.quads t.controls.body) in
+      let short = all_short LONGEST_READ t.quads (what_is_read (page_body history version config s k) LONGEST_READ t.quads t.controls.body) in
       record {
-        within = record { count = rw (← m_count) (count_fits ts there back m page.count counted); terms = subst (AllByRecursion (HasShortTerms 4194304)) (is ∙ sym quads_are) short };
+        within = record { count = rw (← m_count) (count_fits ts there back m page.count counted); terms = subst (AllByRecursion (HasShortTerms LONGEST_READ)) (is ∙ sym quads_are) short };
         authority = home_taken config.base page.form.template (authority_of address) web form.template t.home;
         is_page = record {
           triples_are = t.triples ∙ ap page_triples is ∙ page_data;
@@ -198,7 +200,7 @@ module _ (history : List (List Triple)) (version : ℕ) (config : Config) (s : S
   next_there : (next : Option Address) × IsNextOf config s k last next
   next_there =
       let text = page_address config.base s (k + 1) in
-      let more = page_longer config.base s (k + 1) in
+      let more = page_is_longer config.base s (k + 1) in
       elim (cases_lt k last) [
         | inl below ↦ (Some (longer config.base text more), (below, longer_is config.base text web more))
         | inr past ↦ (None, past)

@@ -3,6 +3,7 @@ use Rattle.std.specs.Prelude.{ℕ, ◌≡◌, ◌+◌, ◌<◌, ◌≤◌, List,
 use Rattle.std.specs.List.{AllByRecursion}
 use Rattle.rdf_terms.specs.declared.term.Triple.{Triple}
 use Rattle.rdf_terms.specs.Selections.{Selection, selected, selected_page, selected_last}
+use Rattle.rdf_terms.specs.declared.limits.TheConstants.{LONGEST_READ}
 use Rattle.tpf_base.specs.Addresses.{Address, IsAddress, authority_of}
 use Rattle.template_fill.specs.declared.form.Form.{Form}
 use Rattle.template_fill.specs.Pages.{page_address, server_template}
@@ -13,10 +14,10 @@ use Rattle.fragment_page.specs.declared.page.Page.{Page}
 use Rattle.control_reader.specs.Takes.{Takes}
 pub use Rattle.own_controls.specs.Safe.{IsShort, IsShortGraph, HasShortTerms}
 
--- within the limits of reading: a count of 19 digits at most, and terms of at most 4194304 bytes
+-- within the limits of reading: a count of 19 digits at most, and terms of at most LONGEST_READ bytes
 pub record IsWithinLimits (history : List (List Triple)) (version : ℕ) (config : Config) (s : Selection) (k : ℕ) : Type 0 where
   pub count : length (selected (version_of history version) s) ≤ 9999999999999999999
-  pub terms : AllByRecursion (HasShortTerms 4194304) (page_quads history version config s k)
+  pub terms : AllByRecursion (HasShortTerms LONGEST_READ) (page_quads history version config s k)
 
 -- the address of the next page, exactly where k is below the last
 abbrev pub IsNextOf : Config → Selection → ℕ → ℕ → Option Address → Type 0
