@@ -23,6 +23,38 @@ pub struct ClientWords {
     pub max_body: u64,
 }
 
+/// `local FILE QUERYFILE`: to serve a file of data to a client in the same process, and to write the answer
+/// of the query of another file.
+#[derive(Drop)]
+pub struct LocalWords<'a> {
+    /// `FILE`: the name of the file of data.
+    pub name: &'a str,
+    /// `QUERYFILE`: the name of the file of the query.
+    pub query: &'a str,
+    /// `--graph IRI` or `--union`, and else the default graph.
+    pub choice: Choice,
+    /// `--page`: the most triples of a page, 1 to 1000; 100 where it is not given.
+    pub page: u64,
+    /// The options of the client.
+    pub client: ClientWords,
+    /// `--seed`: of the random order of events, 0 to 9999999999999999999; 0 where it is not given. It is
+    /// refused beside `--block`.
+    pub seed: u64,
+    /// `--fail-every N`: each N-th dial fails, up to 1000000000; 0, as where it is not given, is never.
+    pub fail_every: u64,
+}
+
+/// `query URL QUERYFILE`: to ask the query of a file of the server at an address.
+#[derive(Drop)]
+pub struct QueryWords<'a> {
+    /// `URL`: the address of a page of the server, from which the search form is read.
+    pub url: WebAddress,
+    /// `QUERYFILE`: the name of the file of the query.
+    pub query: &'a str,
+    /// The options of the client.
+    pub client: ClientWords,
+}
+
 /// `federate QUERYFILE URL ..`: to ask the query of a file of one to eight servers.
 #[derive(Drop)]
 pub struct FederateWords<'a> {
@@ -35,59 +67,38 @@ pub struct FederateWords<'a> {
     pub client: ClientWords,
 }
 
+/// `serve FILE --base URL`: to serve a file of data.
+#[derive(Drop)]
+pub struct ServeWords<'a> {
+    /// `FILE`: the name of the file of data.
+    pub name: &'a str,
+    /// `--base`: an address without a query.
+    pub base: WebAddress,
+    /// `--graph IRI` or `--union`, and else the default graph.
+    pub choice: Choice,
+    /// `--page`: the most triples of a page, 1 to 1000; 100 where it is not given.
+    pub page: u64,
+    /// `--stop-after`: after how many connections to stop, 1 to 1000000000, and else never.
+    pub stop_after: Option<u64>,
+    /// `--reload`: the path on which a request has the file read again, which is a written path and not
+    /// that of the base.
+    pub reload: Option<Text>,
+    /// `--rows`: whether the rows of a request are read, and its page then holds only the triples that fit
+    /// one of them. It is refused beside `--reload`.
+    pub rows: bool,
+}
+
 /// What the program is asked to do.
 #[derive(Drop)]
 pub enum Command<'a> {
-    /// `local FILE QUERYFILE`: to serve a file of data to a client in the same process, and to write
-    /// the answer of the query of another file.
-    Local {
-        /// `FILE`: the name of the file of data.
-        name: &'a str,
-        /// `QUERYFILE`: the name of the file of the query.
-        query: &'a str,
-        /// `--graph IRI` or `--union`, and else the default graph.
-        choice: Choice,
-        /// `--page`: the most triples of a page, 1 to 1000; 100 where it is not given.
-        page: u64,
-        /// The options of the client.
-        client: ClientWords,
-        /// `--seed`: of the random order of events, 0 to 9999999999999999999; 0 where it is not given. It is
-        /// refused beside `--block`.
-        seed: u64,
-        /// `--fail-every N`: each N-th dial fails, up to 1000000000; 0, as where it is not given, is
-        /// never.
-        fail_every: u64,
-    },
+    /// `local FILE QUERYFILE`: to ask the query of a file of data in the same process.
+    Local(LocalWords<'a>),
     /// `query URL QUERYFILE`: to ask the query of a file of the server at an address.
-    Query {
-        /// `URL`: the address of a page of the server, from which the search form is read.
-        url: WebAddress,
-        /// `QUERYFILE`: the name of the file of the query.
-        query: &'a str,
-        /// The options of the client.
-        client: ClientWords,
-    },
+    Query(QueryWords<'a>),
     /// `federate QUERYFILE URL ..`: to ask the query of a file of several servers together.
     Federate(FederateWords<'a>),
     /// `serve FILE --base URL`: to serve a file of data.
-    Serve {
-        /// `FILE`: the name of the file of data.
-        name: &'a str,
-        /// `--base`: an address without a query.
-        base: WebAddress,
-        /// `--graph IRI` or `--union`, and else the default graph.
-        choice: Choice,
-        /// `--page`: the most triples of a page, 1 to 1000; 100 where it is not given.
-        page: u64,
-        /// `--stop-after`: after how many connections to stop, 1 to 1000000000, and else never.
-        stop_after: Option<u64>,
-        /// `--reload`: the path on which a request has the file read again, which is a written path
-        /// and not that of the base.
-        reload: Option<Text>,
-        /// `--rows`: whether the rows of a request are read, and its page then holds only the triples that
-        /// fit one of them. It is refused beside `--reload`.
-        rows: bool,
-    },
+    Serve(ServeWords<'a>),
     /// `make N`: to write the data of so many persons, 1 to 1000000, or with `--run QUERYFILE` to ask
     /// a query of them.
     Make {

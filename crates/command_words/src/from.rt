@@ -7,7 +7,7 @@ ghost use Rattle.command_words.specs.CommandNames.{form_by, from_by};
 ghost use Rattle.command_words.specs.CommandViews.{command_view};
 
 use crate::arguments::arguments_of;
-use crate::command::{ClientWords, Command};
+use crate::command::{ClientWords, Command, LocalWords, QueryWords, ServeWords};
 use crate::federate::{QUERY_AND_URLS, federate_from};
 use crate::values::{
     base_of, choice_of, count_of, is_true, number_of, number_or, reload_of, rows_beside,
@@ -110,7 +110,7 @@ fn local_with<'a>(
     let page = page_in(matches)?;
     let seed = seed_in(matches)?;
     let fail_every = number_in(matches, "fail-every", 0, 1000000000, 0)?;
-    Some(Command::Local {
+    Some(Command::Local(LocalWords {
         name,
         query,
         choice,
@@ -118,7 +118,7 @@ fn local_with<'a>(
         client,
         seed,
         fail_every,
-    })
+    }))
 }
 
 fn local_from<'a>(
@@ -141,7 +141,7 @@ fn query_with<'a>(
     let url = url?;
     let query = value_of(matches, "QUERYFILE")?;
     let client = client?;
-    Some(Command::Query { url, query, client })
+    Some(Command::Query(QueryWords { url, query, client }))
 }
 
 fn query_from<'a>(
@@ -177,7 +177,7 @@ fn serve_with<'a>(
     let page = page_in(matches)?;
     let stop_after = count_of(value_of(matches, "stop-after"), 1, 1000000000)?;
     let rows = rows_in(matches, &reload)?;
-    Some(Command::Serve {
+    Some(Command::Serve(ServeWords {
         name,
         base,
         choice,
@@ -185,7 +185,7 @@ fn serve_with<'a>(
         stop_after,
         reload,
         rows,
-    })
+    }))
 }
 
 fn serve_from<'a>(

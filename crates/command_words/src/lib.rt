@@ -20,6 +20,6 @@ mod federate;
 mod from;
 mod values;
 
-pub use command::{ClientWords, Command, FederateWords};
+pub use command::{ClientWords, Command, FederateWords, LocalWords, QueryWords, ServeWords};
 pub use from::command_of;
 pub use values::LONGEST_TYPED;

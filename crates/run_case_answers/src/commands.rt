@@ -1,6 +1,6 @@
 // The words of the command line, and the commands that they are.
 use case_rows::{Case, CaseFault, word_text};
-use command_words::{ClientWords, Command, FederateWords, command_of};
+use command_words::{ClientWords, Command, FederateWords, LocalWords, ServeWords, command_of};
 use run_case_rows::words_of;
 use std::alloc::Global;
 use tpf_base::Text;
@@ -36,26 +36,20 @@ fn bounds_text(alloc: Global, client: &ClientWords) -> Result<String, CaseFault>
 }
 
 /// `local` in one line, before the numbers of its client.
-fn local_front(
-    alloc: Global,
-    name: &str,
-    query: &str,
-    choice: &Choice,
-    page: u64,
-) -> Result<String, CaseFault> {
-    let graphs = choice_text(choice);
+fn local_front(alloc: Global, words: &LocalWords<'_>) -> Result<String, CaseFault> {
+    let name = words.name;
+    let query = words.query;
+    let graphs = choice_text(&words.choice);
+    let page = words.page;
     Ok(format!(in alloc; "local {name} {query} {graphs} {page}")?)
 }
 
 /// `local` in one line: what it asks, the numbers of its client, its seed and which dials fail.
-fn local_text(
-    alloc: Global,
-    front: &str,
-    client: &ClientWords,
-    seed: u64,
-    fail_every: u64,
-) -> Result<String, CaseFault> {
-    let client = client_text(alloc, client)?;
+fn local_text(alloc: Global, words: &LocalWords<'_>) -> Result<String, CaseFault> {
+    let front = local_front(alloc, words)?;
+    let client = client_text(alloc, &words.client)?;
+    let seed = words.seed;
+    let fail_every = words.fail_every;
     Ok(format!(in alloc; "{front} {client} {seed} {fail_every}")?)
 }
 
@@ -84,32 +78,29 @@ fn federate_text(alloc: Global, words: &FederateWords<'_>) -> Result<String, Cas
 }
 
 /// `serve` in one line, before the path of a reload.
-fn serve_front(
-    alloc: Global,
-    name: &str,
-    address: &str,
-    choice: &Choice,
-    page: u64,
-) -> Result<String, CaseFault> {
-    let graphs = choice_text(choice);
+fn serve_front(alloc: Global, words: &ServeWords<'_>) -> Result<String, CaseFault> {
+    let name = words.name;
+    let address = words.base.text();
+    let graphs = choice_text(&words.choice);
+    let page = words.page;
     Ok(format!(in alloc; "serve {name} {address} {graphs} {page}")?)
+}
+
+/// The path of a reload; `none` where there is none.
+fn path_text(reload: &Option<Text>) -> &str {
+    match reload {
+        Some(path) => path.as_str(),
+        None => "none",
+    }
 }
 
 /// `serve` in one line: what is served, after how many connections it ends, the path of a reload, and `rows` where rows
 /// are read.
-fn serve_text(
-    alloc: Global,
-    front: &str,
-    stop_after: &Option<u64>,
-    reload: &Option<Text>,
-    rows: bool,
-) -> Result<String, CaseFault> {
-    let connections = stop_after.unwrap_or(0);
-    let path = match reload {
-        Some(path) => path.as_str(),
-        None => "none",
-    };
-    let rows = if rows { " rows" } else { "" };
+fn serve_text(alloc: Global, words: &ServeWords<'_>) -> Result<String, CaseFault> {
+    let front = serve_front(alloc, words)?;
+    let connections = words.stop_after.unwrap_or(0);
+    let path = path_text(&words.reload);
+    let rows = if words.rows { " rows" } else { "" };
     Ok(format!(in alloc; "{front} {connections} {path}{rows}")?)
 }
 
@@ -122,32 +113,10 @@ fn make_text(alloc: Global, count: u32, query: Option<&str>) -> Result<String, C
 /// A command in one line.
 fn command_text(alloc: Global, command: &Command<'_>) -> Result<String, CaseFault> {
     match command {
-        Command::Local {
-            name,
-            query,
-            choice,
-            page,
-            client,
-            seed,
-            fail_every,
-        } => {
-            let front = local_front(alloc, *name, *query, choice, *page)?;
-            local_text(alloc, front.as_str(), client, *seed, *fail_every)
-        }
-        Command::Query { url, query, client } => query_text(alloc, url.text(), *query, client),
+        Command::Local(words) => local_text(alloc, words),
+        Command::Query(words) => query_text(alloc, words.url.text(), words.query, &words.client),
         Command::Federate(words) => federate_text(alloc, words),
-        Command::Serve {
-            name,
-            base,
-            choice,
-            page,
-            stop_after,
-            reload,
-            rows,
-        } => {
-            let front = serve_front(alloc, *name, base.text(), choice, *page)?;
-            serve_text(alloc, front.as_str(), stop_after, reload, *rows)
-        }
+        Command::Serve(words) => serve_text(alloc, words),
         Command::Make { count, run } => make_text(alloc, *count, *run),
     }
 }
