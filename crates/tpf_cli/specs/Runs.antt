@@ -29,6 +29,8 @@ use Rattle.query_command.specs.Groups.{FileAsked, ServerAsked, GeneratedAsked}
 use Rattle.query_command.specs.declared.generated_query.Counts.{Counts}
 use Rattle.serve_command.specs.Services.{ServesFile}
 use Rattle.command_words.specs.declared.command.ClientWords.{ClientWords}
+use Rattle.command_words.specs.declared.command.LocalWords.{LocalWords}
+use Rattle.command_words.specs.declared.command.ServeWords.{ServeWords}
 use Rattle.federate_command.specs.Commands.{ServersAsked}
 use Rattle.command_words.specs.Commands.{Command, local, query, federate, serve, make}
 use Rattle.tpf_cli.specs.declared.top.Inside.{Inside}
@@ -134,6 +136,14 @@ view_of name query_name choice page client seed fail_every = record { name = nam
 
 abbrev pub config_by : Address → ℕ → Option (List ℕ) → Bool → Config
 config_by base page reload rows = record { base = base; page_size = page; reload = reload; rows = rows }
+
+-- what `local` asks, by its words
+abbrev pub asked_of : LocalWords → LocalView
+asked_of words = view_of words.name.now words.query.now words.choice words.page words.client words.seed words.fail_every
+
+-- where the pages of `serve` stand, by its words
+abbrev pub config_in : ServeWords → Config
+config_in words = config_by words.base words.page words.reload words.rows
 
 -- what a command did that ended so
 abbrev pub Does : Around → Command → EndOfRun → Type 0

@@ -3,17 +3,16 @@ ghost use Rattle.std.specs.Prelude.{◌≡◌, ◌≤◌, ◌<◌, length, None}
 ghost use Rattle.rdf_terms.specs.declared.limits.TheConstants.{MOST_ROWS};
 ghost use Rattle.template_fill.specs.Configurations.{HasReloadPath};
 ghost use Rattle.data_files.specs.Kept.{KeepsSink};
-ghost use Rattle.query_command.specs.Loops.{local_view};
 ghost use Rattle.query_command.specs.Groups.{FileAsked, ServerAsked};
 ghost use Rattle.federated_query.specs.Servers.{AreApart};
 ghost use Rattle.federate_command.specs.Commands.{ServersAsked};
-ghost use Rattle.serve_command.specs.Services.{ServesFile, config_of};
+ghost use Rattle.serve_command.specs.Services.{ServesFile};
 ghost use Rattle.tpf_cli.specs.Ranges.{IsClient, IsTyped};
-ghost use Rattle.tpf_cli.specs.Runs.{WritesNumbers, CountsFile, options_of, unwritten, wire_inside};
+ghost use Rattle.tpf_cli.specs.Runs.{WritesNumbers, CountsFile, asked_of, config_in, options_of, unwritten, wire_inside};
 
 use crate::lines::write_sizes;
 use crate::top::Inside;
-use command_words::{ClientWords, FederateWords};
+use command_words::{ClientWords, FederateWords, LocalWords, QueryWords, ServeWords};
 use federate_command::query_servers;
 use fragment_server::FragmentConnection;
 use loop_wire::LoopWire;
@@ -21,7 +20,6 @@ use query_command::{AnswerFault, Counts, LocalQuery, local, query, query_generat
 use serve_command::{Service, ServiceFault, serve};
 use std::alloc::Global;
 use std::sync::Wait;
-use template_fill::WebAddress;
 use tpf_base::{Accept, Dial, Fault, Shelf, Sink};
 use tpf_client::{BlockSize, ClientFault, Options, Report};
 
@@ -38,7 +36,7 @@ fn block_of(rows: u32) -> BlockSize
 }
 
 /// The bounds of a client by its words.
-pub fn options_of(client: ClientWords) -> Options
+fn options_of(client: ClientWords) -> Options
     requires { IsClient client }
     ensures { result ≡ options_of client }
 {
@@ -66,38 +64,37 @@ fn inside_of(made: Option<LoopWire<FragmentConnection>>) -> Inside
 pub fn ask_file<R: Wait, F: Shelf, K: Sink>(
     rt: &R,
     alloc: Global,
-    asked: &LocalQuery<'_>,
+    words: &LocalWords<'_>,
     shelf: &mut F,
     out: &mut K,
     inside: &mut Inside,
 ) -> Result<Report, AnswerFault>
-    requires low { 1 ≤ asked.now.page_size }
-    requires high { asked.now.page_size ≤ 1000 }
-    requires window { 1 ≤ asked.now.options.window }
-    requires some { 1 ≤ asked.now.options.links }
-    requires few { asked.now.options.links ≤ 256 }
+    requires low { 1 ≤ words.now.page }
+    requires high { words.now.page ≤ 1000 }
+    requires client { IsClient words.now.client }
     ensures { FileAsked (F.state shelf.old) (F.state shelf.new) (K.state out.old) (K.state out.new)
-        (wire_inside inside.new) (local_view asked.now) result }
+        (wire_inside inside.new) (asked_of words.now) result }
 {
+    let asked = LocalQuery {
+        name: words.name,
+        query: words.query,
+        choice: &words.choice,
+        page_size: words.page,
+        options: options_of(words.client),
+        seed: words.seed,
+        fail_every: words.fail_every,
+    };
     let mut made = None;
-    let answer = local(rt, alloc, asked, shelf, out, &mut made);
+    let answer = local(rt, alloc, &asked, shelf, out, &mut made);
     *inside = inside_of(made);
     answer
-}
-
-/// What is asked of a server: its start, the name of the file of the query, and what bounds the client.
-#[derive(Drop)]
-pub struct ServerQuery<'a> {
-    pub url: WebAddress,
-    pub query: &'a str,
-    pub client: ClientWords,
 }
 
 /// Asks a server, by a query with groups or without.
 pub fn ask_server<R: Wait, F: Shelf, W: Dial, K: Sink>(
     rt: &R,
     alloc: Global,
-    asked: &ServerQuery<'_>,
+    asked: &QueryWords<'_>,
     shelf: &mut F,
     wire: &mut W,
     out: &mut K,
@@ -146,19 +143,37 @@ pub fn ask_servers<R: Wait, F: Shelf, W: Dial, K: Sink>(
 pub fn serve_file<R: Wait, F: Shelf, W: Accept, K: Sink>(
     rt: &R,
     alloc: Global,
-    service: Service<'_>,
+    words: ServeWords<'_>,
     shelf: &mut F,
     wire: &mut W,
     out: &mut K,
 ) -> Result<u64, ServiceFault>
-    requires low { 1 ≤ service.page_size }
-    requires high { service.page_size ≤ 1000 }
-    requires no_query { service.base.query ≡ None }
-    requires reload { HasReloadPath service.base service.reload }
+    requires low { 1 ≤ words.page }
+    requires high { words.page ≤ 1000 }
+    requires no_query { words.base.query ≡ None }
+    requires reload { HasReloadPath words.base words.reload }
     ensures { ServesFile (F.state shelf.old) (F.state shelf.new)
         (W.state wire.old) (W.state wire.new) (K.state out.old) (K.state out.new)
-        service.entry.name.now service.entry.choice.now (config_of service.entry) service.entry.stop_after result }
+        words.entry.name.now words.entry.choice (config_in words.entry) words.entry.stop_after result }
 {
+    let ServeWords {
+        name,
+        base,
+        choice,
+        page,
+        stop_after,
+        reload,
+        rows,
+    } = words;
+    let service = Service {
+        name,
+        choice: &choice,
+        base,
+        page_size: page,
+        reload,
+        rows,
+        stop_after,
+    };
     service.base.is_valid();
     serve(rt, alloc, service, shelf, wire, out)
 }

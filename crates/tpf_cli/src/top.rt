@@ -8,17 +8,13 @@ ghost use Rattle.tpf_cli.specs.Ranges.{IsInRange};
 ghost use Rattle.tpf_cli.specs.Runs.{Does, DoesOf, Makes, IsWithoutShelf, IsWithoutOutput, IsWithoutWire, around};
 ghost use Rattle.tpf_cli.specs.Promises.{Keeps};
 
-use crate::commands::{
-    ServerQuery, ask_file, ask_generated, ask_server, ask_servers, options_of, serve_file,
-};
+use crate::commands::{ask_file, ask_generated, ask_server, ask_servers, serve_file};
 use crate::ending::Ending;
 use crate::say::say;
 use command_words::{Command, command_of};
 use fragment_server::FragmentConnection;
 use generated_data::write_generated;
 use loop_wire::LoopWire;
-use query_command::LocalQuery;
-use serve_command::Service;
 use std::alloc::Global;
 use std::sync::Wait;
 use tpf_base::{Accept, Dial, Shelf, Sink};
@@ -77,37 +73,19 @@ fn obey<'a, R: Wait, F: Shelf, W: Dial + Accept, K: Sink>(
     ensures shelf { IsWithoutShelf (Some (command_view command.entry)) → shelf.new ≡ shelf.old }
 {
     match command {
-        Command::Local {
-            name,
-            query,
-            choice,
-            page,
-            client,
-            seed,
-            fail_every,
-        } => {
-            let asked = LocalQuery {
-                name,
-                query,
-                choice: &choice,
-                page_size: page,
-                options: options_of(client),
-                seed,
-                fail_every,
-            };
-            let answer = ask_file(rt, alloc, &asked, shelf, out, inside);
+        Command::Local(words) => {
+            let answer = ask_file(rt, alloc, &words, shelf, out, inside);
             Ending::Answered {
-                data: name,
-                query,
+                data: words.name,
+                query: words.query,
                 answer,
             }
         }
-        Command::Query { url, query, client } => {
-            let asked = ServerQuery { url, query, client };
-            let answer = ask_server(rt, alloc, &asked, shelf, wire, out);
+        Command::Query(words) => {
+            let answer = ask_server(rt, alloc, &words, shelf, wire, out);
             Ending::Answered {
                 data: "",
-                query,
+                query: words.query,
                 answer,
             }
         }
@@ -119,26 +97,10 @@ fn obey<'a, R: Wait, F: Shelf, W: Dial + Accept, K: Sink>(
                 answer,
             }
         }
-        Command::Serve {
-            name,
-            base,
-            choice,
-            page,
-            stop_after,
-            reload,
-            rows,
-        } => {
-            let service = Service {
-                name,
-                choice: &choice,
-                base,
-                page_size: page,
-                reload,
-                rows,
-                stop_after,
-            };
-            let served = serve_file(rt, alloc, service, shelf, wire, out);
-            Ending::Served { data: name, served }
+        Command::Serve(words) => {
+            let data = words.name;
+            let served = serve_file(rt, alloc, words, shelf, wire, out);
+            Ending::Served { data, served }
         }
         Command::Make { count, run } => obey_make(rt, alloc, count, run, shelf, out, inside),
     }

@@ -8,12 +8,12 @@ use Rattle.tpf_cli.proofs.top.obey.Goals as goal
 pub returns-in-Local-clause-does : goal.returns-in-Local-clause-does
 returns-in-Local-clause-does g c =
     does_local (around (g.F.Shelf.state c.args.shelf.now) (g.F.Shelf.state c.ask_file-answer.new.shelf) (g.W.Wire.allows c.args.wire.now) (g.W.Wire.state c.args.wire.now) (g.W.Wire.state c.args.wire.now) (g.K.Sink.state c.args.out.now) (g.K.Sink.state c.ask_file-answer.new.out) c.ask_file-answer.new.inside)
-    (command_view c.args.command) c.in-Local.name.now c.in-Local.query.now c.in-Local.choice c.in-Local.page c.in-Local.client c.in-Local.seed c.in-Local.fail_every c.options_of.result c.ask_file-answer.result (ap command_view c.in-Local.is) c.options_of.ensures refl c.ask_file-answer.ensures
+    (command_view c.args.command) c.in-Local.words c.ask_file-answer.result (ap command_view c.in-Local.is) refl c.ask_file-answer.ensures
 
 pub returns-in-Query-clause-does : goal.returns-in-Query-clause-does
 returns-in-Query-clause-does g c =
     does_query (around (g.F.Shelf.state c.args.shelf.now) (g.F.Shelf.state c.ask_server-answer.new.shelf) (g.W.Wire.allows c.args.wire.now) (g.W.Wire.state c.args.wire.now) (g.W.Wire.state c.ask_server-answer.new.wire) (g.K.Sink.state c.args.out.now) (g.K.Sink.state c.ask_server-answer.new.out) c.args.inside.now)
-    (command_view c.args.command) c.in-Query.url c.in-Query.query.now c.in-Query.client c.ask_server-answer.result (ap command_view c.in-Query.is) c.requires.unused c.ask_server-answer.ensures
+    (command_view c.args.command) c.in-Query.words.url c.in-Query.words.query.now c.in-Query.words.client c.ask_server-answer.result (ap command_view c.in-Query.is) c.requires.unused c.ask_server-answer.ensures
 
 pub returns-in-Federate-clause-does : goal.returns-in-Federate-clause-does
 returns-in-Federate-clause-does g c =
