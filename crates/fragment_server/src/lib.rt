@@ -19,12 +19,12 @@
 
 mod connection;
 mod data_set;
+pub mod laws;
 mod responds;
 mod server;
 mod stands;
-mod wires;
 
 pub use connection::FragmentConnection;
 pub use data_set::DataSet;
+pub use laws::wires_to_servers_are_honest;
 pub use server::FragmentServer;
-pub use wires::wires_to_servers_are_honest;

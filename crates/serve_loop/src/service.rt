@@ -143,19 +143,18 @@ fn serve_on<R: Wait, C: Converses, S: Supply<C::Server>, W: Accept>(
 
 /// Serves the links (the connections) that come to the door (the listener) of a wire, until at least
 /// `stop_after` of them have ended, and for as long as it can where that is `None`. It goes round them: a
-/// turn steps those of the next links in order whose numbers lie at most `SPREAD` from one another (twice as far behind each turn in which nothing moved or ended), and
-/// those that were given since the turn before the last one began. So a new link is stepped in the next
-/// turns, however many others there are, and each other one once a round. Behind each turn it accepts the
-/// links that wait at the door, until none does or `MOST_LIVE` are live; only behind a round in which
-/// nothing moved or ended it waits. At each exit the links that are still live are closed. No link from
-/// before is touched, none is dialled, and the door is not opened again. The counts of the answer stand
-/// still at their last value. The supply is asked once for each reload request that waits in a turn, and
-/// for nothing else (`asks`).
+/// turn steps those of the next links in order whose numbers lie at most `SPREAD` from one another (twice
+/// as far behind each turn in which nothing moved or ended), and those that were given since the turn
+/// before the last one began. So a new link is stepped in the next turns, however many others there are,
+/// and each other one once a round. Behind each turn it accepts the links that wait at the door, until
+/// none does or `MOST_LIVE` are live; only behind a round in which nothing moved or ended it waits. At
+/// each exit the links that are still live are closed. No link from before is touched, none is dialled,
+/// and the door is not opened again. The counts of the answer stand still at their last value. The supply
+/// is asked once for each reload request that waits in a turn, and for nothing else (`asks`).
 ///
 /// `Wire` where an accept or a wait failed: the faults of the door rose. A link that fails ends its own
-/// connection alone. `OutOfMemory` where memory ran out in one of them, or for
-/// the place of a new connection; where it ran out for one connection alone, that one ends and is
-/// counted.
+/// connection alone. `OutOfMemory` where memory ran out in one of them, or for the place of a new
+/// connection; where it ran out for one connection alone, that one ends and is counted.
 pub fn serve<R: Wait, C: Converses, S: Supply<C::Server>, W: Accept>(
     rt: &R,
     alloc: Global,

@@ -397,7 +397,8 @@ impl<C: Converses> Loop<C> {
     /// memory, or whose link fails, ends alone. The connections of other links are left as they are.
     ///
     /// `Wire` where the accept failed: the faults of the door rose. `OutOfMemory` where memory ran out
-    /// there, or for the place of a new connection. In both cases the live connections stay, and the next turn goes on with them.
+    /// there, or for the place of a new connection. In both cases the live connections stay, and the next
+    /// turn goes on with them.
     pub fn turn<S: Supply<C::Server>, W: Accept>(
         &mut self,
         part: Part,

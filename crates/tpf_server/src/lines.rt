@@ -116,7 +116,8 @@ fn is_plain(form: &str, kind: &Kind, bytes: u128) -> bool
     }
 }
 
-/// Appends the term of the table with this id, and a space. Of an IRI and of a literal without a backslash the text is copied at once.
+/// Appends the term of the table with this id, and a space. Of an IRI and of a literal without a backslash
+/// the text is copied at once.
 fn append_at(table: &Table, id: u32, out: &mut Vec<u8>) -> Result<(), OutOfMemory>
     requires { id < length (held_terms table.now) }
     ensures ok { OnOk result (out.new.items ≡ out.old.items ++ spaced_at (held_terms table.now) id) }

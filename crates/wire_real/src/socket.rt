@@ -15,9 +15,10 @@ use std::net::{Net, Shutdown, SocketAddr};
 use std::os::fd::AsRawFd;
 use tpf_base::Moved;
 
-/// How many bytes are read and dropped at a time before a socket is closed, and how often at most.
+/// How many bytes are read and dropped at a time before a socket is closed.
 const PIECE: usize = 8192;
 
+/// How often at most.
 const PIECES: u32 = 32;
 
 /// What the system said of one direction of a socket.
@@ -303,8 +304,8 @@ impl Socket {
         }
     }
 
-    /// Says to the other end that no more bytes come, and drops what it has sent, at most 262144 bytes,
-    /// without waiting for more. The system resets a connection that is closed over bytes that nobody
+    /// Says to the other end that no more bytes come, and drops what it has sent, at most `PIECES` times
+    /// `PIECE` bytes, without waiting for more. The system resets a connection that is closed over bytes that nobody
     /// read, and the other end may then lose what was sent to it last.
     pub fn finish(self) {
         if self.is_over || self.stream.shutdown(Shutdown::Write).is_err() {

@@ -45,8 +45,8 @@ const RETRY: u64 = 1;
 /// a receive on a link that is not ready answers `NotYet` without asking the system, `wait` and `look` ask
 /// it once for all links, and `wait` answers those of which it told one after another.
 ///
-/// `close` says to the other end that no more bytes come, and drops what it sent, at most 262144 bytes, so
-/// that it gets what was sent to it last.
+/// `close` says to the other end that no more bytes come, and drops what it sent, at most `PIECES` times
+/// `PIECE` (262144) bytes, so that it gets what was sent to it last.
 ///
 /// While there is no door, which is the listener, `wait` fails after 30 seconds in which nothing became
 /// ready, and at once where no link is open. With a door it lasts as long as it takes.
