@@ -1,28 +1,21 @@
 -- The classes of the generated quads.
 use Rattle.std.proofs.Common.{ℕ, Bool, true, false, List, [], ◌∷◌, ◌++◌, ◌==◌, ◌%◌, if◌then◌else◌, refl}
 use Rattle.std.specs.List.{AllByRecursion, flat_map, range_with_len}
+use Rattle.list_laws.proofs.Each.{all_append, all_if}
 use Rattle.rdf_terms.specs.declared.term.Quad.{Quad}
 use Rattle.rdf_terms.specs.Triples.{IsRdfQuad}
 use Rattle.generated_data.specs.Generated.{knows, names, cities, about, generated, IsGroundQuad}
 
--- what holds of both lists, of an optional quad, and of the quads about each person
-all_of_both : (P : Quad → Type 0) (xs ys : List Quad) → AllByRecursion P xs → AllByRecursion P ys → AllByRecursion P (xs ++ ys)
-all_of_both P [] ys a b = b
-all_of_both P (x ∷ xs) ys a b = (a.0, all_of_both P xs ys a.1 b)
-
-all_if : (P : Quad → Type 0) (b : Bool) (q : Quad) → P q → AllByRecursion P (if b then q ∷ [] else [])
-all_if P true q h = (h, tt)
-all_if P false q h = tt
-
+-- what holds of the quads about each person
 all_about : (P : Quad → Type 0) (n : ℕ) → ((i : ℕ) → AllByRecursion P (about n i)) → (is : List ℕ) → AllByRecursion P (flat_map (about n) is)
 all_about P n each [] = tt
-all_about P n each (i ∷ is) = all_of_both P (about n i) (flat_map (about n) is) (each i) (all_about P n each is)
+all_about P n each (i ∷ is) = all_append P (about n i) (flat_map (about n) is) (each i) (all_about P n each is)
 
 ground_about : (n i : ℕ) → AllByRecursion IsGroundQuad (about n i)
 unfolding about knows names cities
 ground_about n i = (
   record { triple = record { subject = tt; predicate = tt; object = tt }; graph = refl },
-  all_of_both IsGroundQuad (names i) (cities i)
+  all_append IsGroundQuad (names i) (cities i)
       (all_if IsGroundQuad (i % 3 == 0) _ (record { triple = record { subject = tt; predicate = tt; object = tt }; graph = refl }))
       (all_if IsGroundQuad (i % 10 == 0) _ (record { triple = record { subject = tt; predicate = tt; object = tt }; graph = refl })),
 )
@@ -31,7 +24,7 @@ rdf_about : (n i : ℕ) → AllByRecursion IsRdfQuad (about n i)
 unfolding about knows names cities
 rdf_about n i = (
   record { triple = record { subject = tt; predicate = tt }; graph = tt },
-  all_of_both IsRdfQuad (names i) (cities i)
+  all_append IsRdfQuad (names i) (cities i)
       (all_if IsRdfQuad (i % 3 == 0) _ (record { triple = record { subject = tt; predicate = tt }; graph = tt }))
       (all_if IsRdfQuad (i % 10 == 0) _ (record { triple = record { subject = tt; predicate = tt }; graph = tt })),
 )

@@ -1,12 +1,12 @@
 -- What is written, what is gathered, and what is left of a text that is written in pieces.
-use Rattle.std.proofs.Common.{ℕ, suc, ◌≡◌, ◌+◌, ◌<◌, ◌≤◌, ◌-◌, List, [], ◌++◌, Option, Result, Ok, Err, OnErr, ap, sym, ◌∙◌, subst, append_assoc, append-nil, arith}
+use Rattle.std.proofs.Common.{ℕ, suc, ◌≡◌, ◌+◌, ◌<◌, ◌≤◌, ◌-◌, List, [], ◌++◌, Option, ap, sym, ◌∙◌, subst, append_assoc, append-nil, arith}
 use Rattle.std.specs.List.{flat_map, range_with_len}
 use Rattle.std.specs.Io.KnownBytes.{Appends}
 use Rattle.tpf_base.specs.Wrote.{AppendsPrefix}
 use Rattle.tpf_base.proofs.Appended.{Appends-then, Appends-none}
 use Rattle.rdf_terms.specs.Canon.{canon}
+use Rattle.rdf_terms.proofs.Canonical.{canon_of_both}
 use Rattle.generated_data.specs.Generated.{about, generated}
-use Rattle.generated_data.proofs.Texts.{canon_of_both}
 
 -- the lines about the persons from i on
 unfoldable pub left : ℕ → ℕ → List ℕ
@@ -71,7 +71,3 @@ pub whole_written : (n i : ℕ) (whole : List ℕ) (old new newer : Option (List
 whole_written n i whole old new newer piece given over same a w =
     let e : whole ≡ w.done ++ piece = w.parts ∙ ap (λ l. w.done ++ (piece ++ l)) (left_none n i over) ∙ ap (λ l. w.done ++ l) (append-nil piece) in
     subst (λ (l : List ℕ). Appends old newer l) (sym e) (Appends-then old new newer w.done piece w.bytes (subst (λ (l : List ℕ). Appends new newer l) same a))
-
-pub at_error : {T E P : Type 0} (r : Result T E) → P → OnErr r P
-at_error (Ok x) p = tt
-at_error (Err x) p = p

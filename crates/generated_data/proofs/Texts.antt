@@ -5,6 +5,7 @@ use Rattle.std.proofs.lemmas.Fmt.{decimal_by_steps}
 use Rattle.rdf_terms.specs.Canon.{is_marked, canonical_byte, canonical_form, canonical_line, canon}
 use Rattle.rdf_terms.specs.declared.term.Quad.{Quad}
 use Rattle.rdf_terms.specs.declared.term.Term.TheVariants.{Iri}
+use Rattle.rdf_terms.proofs.Canonical.{canon_of_both}
 use Rattle.generated_data.specs.Generated.{statement, person, name, city, knows, names, cities, about}
 use Rattle.generated_data.specs.Lines.{numbered, line_with}
 
@@ -73,10 +74,6 @@ city_text i tenth = text_if_true (i % 10 == 0) (lives i) _ tenth (city_line i)
 pub no_city_text : (i : ℕ) → (i % 10 == 0) ≡ false → canon (cities i) ≡ []
 unfolding cities
 no_city_text i other = text_if_false (i % 10 == 0) (lives i) other
-
-pub canon_of_both : (xs ys : List Quad) → canon (xs ++ ys) ≡ canon xs ++ canon ys
-canon_of_both [] ys = refl
-canon_of_both (x ∷ xs) ys = ap (λ l. canonical_line x ++ l) (canon_of_both xs ys) ∙ sym (append_assoc (canonical_line x) (canon xs) (canon ys))
 
 pub about_text : (n i : ℕ) (old : List ℕ) → ((old ++ canonical_line (knows n i)) ++ canon (names i)) ++ canon (cities i) ≡ old ++ canon (about n i)
 unfolding about

@@ -1,6 +1,7 @@
 use Rattle.std.proofs.Common.{◌∙◌, refl, arith}
 use Rattle.std.proofs.lemmas.Result.{on_ok_weaker, on_err_weaker}
-use Rattle.generated_data.proofs.Pieces.{writing_begins, person_added, piece_written, front_written, whole_written, at_error}
+use Rattle.list_laws.proofs.Results.{any_err}
+use Rattle.generated_data.proofs.Pieces.{writing_begins, person_added, piece_written, front_written, whole_written}
 use Rattle.generated_data.proofs.write.write_generated.Goals as goal
 use Rattle.generated_data.proofs.write.write_generated.Goals.{then-len-ge-PIECE+in_ok-write_all, else-len-ge-PIECE}
 
@@ -10,7 +11,7 @@ loop-person-init g c = record { written = writing_begins c.args.persons _ _ c.in
 pub returns-in_err-write_all-clause-err : goal.returns-in_err-write_all-clause-err
 returns-in_err-write_all-clause-err g c =
     let added = person_added c.args.persons c.loop-person.person _ _ _ _ _ (omega (arith, c.loop-person-test.true)) c.in-Ok-add_person.ensures c.loop-person.invariant.written in
-    at_error c.from_residual.result (front_written _ _ _ _ _ _ _ c.deref.ensures.value c.in_err-write_all.ensures.err added)
+    any_err c.from_residual.result _ (front_written _ _ _ _ _ _ _ c.deref.ensures.value c.in_err-write_all.ensures.err added)
 
 pub loop-person-preserved : goal.loop-person-preserved
 loop-person-preserved g c =
