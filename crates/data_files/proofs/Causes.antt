@@ -1,7 +1,8 @@
 -- What quads that were read rest on, and what answers the one outcome.
-use Rattle.std.proofs.Common.{ℕ, ◌≡◌, List, Some, Result, Ok, Err, IfErr, IfOk, refl}
+use Rattle.std.proofs.Common.{ℕ, ◌≡◌, ◌≢◌, ◌<◌, ◌^◌, true, List, Some, Result, Ok, Err, IfErr, IfOk, refl}
 use Rattle.tpf_base.specs.Causes.{Rose}
-use Rattle.tpf_base.specs.Outside.{ShelfState}
+use Rattle.tpf_base.specs.FileFaults.{HasFileCause}
+use Rattle.tpf_base.specs.Outside.{ShelfState, HoldsName, AsksOnce}
 use Rattle.tpf_base.specs.declared.shelf.FileFault.{FileFault}
 use Rattle.tpf_base.specs.declared.shelf.FileFault.TheVariants as unreadable
 use Rattle.triple_table.specs.declared.choice.Choice.{Choice}
@@ -15,6 +16,7 @@ use Rattle.data_files.specs.declared.fault.QueryFileFault.TheVariants as query_f
 use Rattle.data_files.specs.declared.query.Grammar.{Grammar}
 use Rattle.data_files.specs.Data.{Files, IsOfFile, Outcome, served, too_long, bad, clash, too_many, IsOutcome}
 use Rattle.data_files.specs.Queries.{IsOfAskedFile, QueryOutcome, reads, reads_groups, refused, IsQueryOutcome}
+use Rattle.data_files.specs.Kept.{ReadsNamed}
 use Rattle.data_files.specs.Causes.{DataCause, QueryCause, DataDecides, QueryDecides, Gives, GivesQuery, unread, unread_query}
 use Rattle.data_files.proofs.Outcomes.{one_outcome, one_query}
 
@@ -70,3 +72,13 @@ module _ {S T : Type 0} where
   query_file_failed unreadable.Failed is same h = λ e. h (cc)
   query_file_failed unreadable.TooLong is same h = λ e. cc
   query_file_failed unreadable.OutOfMemory is same h = λ e. cc
+
+-- a file that was not read was asked for once, and its read failed exactly where the answer fails
+pub not_read : {S : Type 0} (name : List ℕ) (old new : ShelfState) (read : Result S FileFault) (Fails : Type 0) → (¬ Fails → read ≢ Err unreadable.Failed) → (read ≢ Err unreadable.Failed → ¬ Fails)
+    → AsksOnce name old new → HasFileCause old.faults new.faults read → (old.faultless ≡ true → HoldsName old.told name → old.given < 2 ^ 32 → read ≢ Err unreadable.Failed) → ReadsNamed name old new Fails
+not_read name old new read Fails fine failed asks cause holds = record {
+  asks = asks;
+  later = cause.later;
+  calm = λ calm. cause.unfailed (fine calm);
+  spared = λ faultless there room. failed (holds faultless there room);
+}

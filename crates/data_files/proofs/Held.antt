@@ -2,6 +2,7 @@
 use Rattle.std.proofs.Common.{ℕ, ◌≡◌, ◌≤◌, Bool, List, [], ◌∷◌, length, Option, Some, None, if◌then◌else◌, Result, Ok, Err, IfOk, OnOk, refl, ap}
 use Rattle.std.proofs.lemmas.Slice.Eq.{bytes_eq-Decides}
 use Rattle.tpf_base.specs.Outside.{content_of}
+use Rattle.rdf_terms.specs.declared.limits.TheConstants.{LONGEST_TERM}
 use Rattle.rdf_terms.specs.declared.term.Quad.{Quad}
 use Rattle.nquads_text.specs.Reads.{Reads}
 use Rattle.triple_table.specs.declared.choice.Choice.{Choice}
@@ -13,6 +14,7 @@ use Rattle.pattern_parser.specs.Queries.{ReadsQuery}
 use Rattle.group_parser.specs.declared.reading.Asked.{Asked}
 use Rattle.group_parser.specs.declared.reading.Asked.TheVariants.{Plain, Groups}
 use Rattle.group_parser.specs.Asking.{IsAsked}
+use Rattle.data_files.specs.declared.data.TheConstants.{MOST_BYTES}
 use Rattle.data_files.specs.declared.fault.DataFault.{DataFault}
 use Rattle.data_files.specs.declared.query.Grammar.TheVariants as grammars
 use Rattle.data_files.specs.Data.{Files, OfContents, HoldsData, AreFew, IsOfFile}
@@ -23,7 +25,7 @@ alone : (name bytes : List ℕ) → content_of ((name, bytes) ∷ []) name ≡ S
 alone name bytes = ap (λ (b : Bool). if b then Some bytes else None) ((bytes_eq-Decides name name).1 refl)
 
 module _ (told : Option Files) (name bytes : List ℕ) (whole : (files : Files) → told ≡ Some files → content_of files name ≡ Some bytes) where
-  pub held_data : (quads : List Quad) → length bytes ≤ 1073741824 → Reads bytes 262144 quads → OfContents told (λ files. HoldsData files name quads)
+  pub held_data : (quads : List Quad) → length bytes ≤ MOST_BYTES → Reads bytes LONGEST_TERM quads → OfContents told (λ files. HoldsData files name quads)
   held_data quads few reads = record {
     files = (name, bytes) ∷ [];
     holds = (bytes, alone name bytes, few, reads);

@@ -1,18 +1,19 @@
 -- Of a file one outcome is true at most.
-use Rattle.std.proofs.Common.{ℕ, ◌≡◌, ◌<◌, ◌≤◌, ◌⊎◌, inl, inr, List, length, Some, Result, Ok, Err, refl, sym, ◌∙◌, ap, subst, arith}
-use Rattle.std.specs.Ordering.{ordering_reverse, is_eq}
-use Rattle.std.proofs.lemmas.Slice.Eq.{bytes_eq-Decides}
-use Rattle.std.proofs.lemmas.Map.Text.{is_eq-slice_cmp}
+use Rattle.std.proofs.Common.{ℕ, ◌≡◌, ◌<◌, ◌≤◌, ◌⊎◌, inl, inr, List, length, Some, refl, sym, ◌∙◌, ap, subst, arith}
+use Rattle.std.specs.Ordering.{ordering_reverse}
 use Rattle.std.specs.Cmp.Lexicographic.{nat_list_cmp_total}
 use Rattle.std.specs.declared.cmp.Ordering.{Ordering}
 use Rattle.std.specs.declared.cmp.Ordering.TheVariants.{Less, Equal, Greater}
+use Rattle.list_laws.proofs.Options.{some_same}
+use Rattle.rdf_terms.specs.declared.limits.TheConstants.{LONGEST_TERM, MOST_TRIPLES}
 use Rattle.rdf_terms.specs.declared.term.Quad.{Quad}
 use Rattle.rdf_terms.specs.declared.term.Triple.{Triple}
 use Rattle.rdf_terms.specs.Order.{bytes_order}
+use Rattle.rdf_terms.proofs.Equality.{equal}
 use Rattle.tpf_base.specs.Outside.{content_of}
 use Rattle.nquads_text.specs.Reads.{Reads, FirstFault}
 use Rattle.nquads_text.specs.declared.fault.Why.{Why}
-use Rattle.nquads_text.proofs.ReadLaws.{not_both, reads_text, faults_text}
+use Rattle.nquads_text.proofs.ReadLaws.{ok_same, err_same, not_both, reads_text, faults_text}
 use Rattle.triple_table.specs.declared.choice.Choice.{Choice}
 use Rattle.triple_table.specs.Chosen.{chosen}
 use Rattle.triple_table.specs.Stored.{PassesMost, IsRanking}
@@ -30,14 +31,12 @@ use Rattle.group_parser.specs.declared.reading.Asked.TheVariants.{Groups}
 use Rattle.group_parser.specs.Asking.{IsAsked}
 use Rattle.group_parser.proofs.Texts.{query_apart, one_first}
 use Rattle.group_parser.proofs.Texts as one_groups
+use Rattle.data_files.specs.declared.data.TheConstants.{MOST_BYTES}
 use Rattle.data_files.specs.declared.query.Grammar.TheVariants as grammars
 use Rattle.data_files.specs.Data.{Files, HoldsData, IsTooLong, HasDataFault, HasClash, HasTooMany, AreFew, Serves, served, too_long, bad, clash, too_many, OneOutcome}
 use Rattle.data_files.specs.Queries.{HoldsQuery, HoldsGroup, HasQueryFault, reads, reads_groups, refused, OneQueryOutcome}
 use Rattle.data_files.proofs.PlainTexts.{is_plain_text, as_group}
 use Rattle.data_files.proofs.TermLists.{ranking_one}
-
-some_same : {A : Type 0} {x y : A} → Some x ≡ Some y → x ≡ y
-some_same e = cc
 
 same_bytes : (files : Files) (name a b : List ℕ) → content_of files name ≡ Some a → content_of files name ≡ Some b → a ≡ b
 same_bytes files name a b p q = some_same (sym p ∙ q)
@@ -47,34 +46,25 @@ same_bytes files name a b p q = some_same (sym p ∙ q)
 long_short : (files : Files) (name a b : List ℕ) (most : ℕ) → content_of files name ≡ Some a → most < length a → content_of files name ≡ Some b → length b ≤ most → ⊥
 long_short files name a b most p long q short = let e : length a ≡ length b = ap length (same_bytes files name a b p q) in omega (arith, e, long, short)
 
-long_held : (files : Files) (name : List ℕ) (quads : List Quad) → IsTooLong files name 1073741824 → HoldsData files name quads → ⊥
-long_held files name quads l h = long_short files name l.0 h.0 1073741824 l.1 l.2 h.1 h.2
+long_held : (files : Files) (name : List ℕ) (quads : List Quad) → IsTooLong files name MOST_BYTES → HoldsData files name quads → ⊥
+long_held files name quads l h = long_short files name l.0 h.0 MOST_BYTES l.1 l.2 h.1 h.2
 
-long_fault : (files : Files) (name : List ℕ) (line : ℕ) (why : Why) → IsTooLong files name 1073741824 → HasDataFault files name line why → ⊥
-long_fault files name line why l f = long_short files name l.0 f.0 1073741824 l.1 l.2 f.1 f.2
+long_fault : (files : Files) (name : List ℕ) (line : ℕ) (why : Why) → IsTooLong files name MOST_BYTES → HasDataFault files name line why → ⊥
+long_fault files name line why l f = long_short files name l.0 f.0 MOST_BYTES l.1 l.2 f.1 f.2
 
 held_fault : (files : Files) (name : List ℕ) (quads : List Quad) (line : ℕ) (why : Why) → HoldsData files name quads → HasDataFault files name line why → ⊥
 held_fault files name quads line why h f =
-    not_both 262144 f.0 quads line why (subst (λ (b : List ℕ). Reads b 262144 quads) (same_bytes files name h.0 f.0 h.1 f.1) h.3) f.3
-
-abbrev Found : Type 0
-Found = Result (List Quad) (ℕ × Why)
-
-ok_same : (a b : List Quad) → ◌≡◌ {A = Found} (Ok a) (Ok b) → a ≡ b
-ok_same a b e = cc
-
-err_same : (a b : ℕ × Why) → ◌≡◌ {A = Found} (Err a) (Err b) → a ≡ b
-err_same a b e = cc
+    not_both LONGEST_TERM f.0 quads line why (subst (λ (b : List ℕ). Reads b LONGEST_TERM quads) (same_bytes files name h.0 f.0 h.1 f.1) h.3) f.3
 
 held_same : (files : Files) (name : List ℕ) (a b : List Quad) → HoldsData files name a → HoldsData files name b → a ≡ b
 held_same files name a b h k =
-    let read : Reads k.0 262144 a = subst (λ (bytes : List ℕ). Reads bytes 262144 a) (same_bytes files name h.0 k.0 h.1 k.1) h.3 in
-    ok_same a b (sym (reads_text 262144 k.0 a read) ∙ reads_text 262144 k.0 b k.3)
+    let read : Reads k.0 LONGEST_TERM a = subst (λ (bytes : List ℕ). Reads bytes LONGEST_TERM a) (same_bytes files name h.0 k.0 h.1 k.1) h.3 in
+    ok_same a b (sym (reads_text LONGEST_TERM k.0 a read) ∙ reads_text LONGEST_TERM k.0 b k.3)
 
 fault_same : (files : Files) (name : List ℕ) (n m : ℕ) (v w : Why) → HasDataFault files name n v → HasDataFault files name m w → bad n v ≡ bad m w
 fault_same files name n m v w f g =
-    let first : FirstFault g.0 262144 n v = subst (λ (bytes : List ℕ). FirstFault bytes 262144 n v) (same_bytes files name f.0 g.0 f.1 g.1) f.3 in
-    let e : ◌≡◌ {A = ℕ × Why} (n, v) (m, w) = err_same (n, v) (m, w) (sym (faults_text 262144 g.0 n v first) ∙ faults_text 262144 g.0 m w g.3) in
+    let first : FirstFault g.0 LONGEST_TERM n v = subst (λ (bytes : List ℕ). FirstFault bytes LONGEST_TERM n v) (same_bytes files name f.0 g.0 f.1 g.1) f.3 in
+    let e : ◌≡◌ {A = ℕ × Why} (n, v) (m, w) = err_same (n, v) (m, w) (sym (faults_text LONGEST_TERM g.0 n v first) ∙ faults_text LONGEST_TERM g.0 m w g.3) in
     ap (λ (p : ℕ × Why). bad p.0 p.1) e
 
 -- two texts of which neither comes before the other are equal
@@ -82,9 +72,6 @@ neither : (a b : List ℕ) (o : Ordering) → bytes_order a b ≡ o → (bytes_o
 neither a b Less e p q = absurd (p e)
 neither a b Equal e p q = e
 neither a b Greater e p q = absurd (q (nat_list_cmp_total.antisymm b a ∙ ap ordering_reverse e))
-
-equal : (x y : List ℕ) → bytes_order x y ≡ Equal → x ≡ y
-equal x y e = (bytes_eq-Decides x y).0 (sym (is_eq-slice_cmp x y) ∙ ap is_eq e)
 
 module _ (files : Files) (name : List ℕ) (choice : Choice) (authority : List ℕ) where
   clash_same : (a b : List ℕ) → HasClash files name choice authority a → HasClash files name choice authority b → a ≡ b
@@ -104,7 +91,7 @@ module _ (files : Files) (name : List ℕ) (choice : Choice) (authority : List �
       m.2.unclashed label (subst (λ (qs : List Quad). Clashes authority (chosen choice qs) label) quads h.2.clashes)
 
   -- what passes the most is not served
-  many_few : (quads : List Triple) (triples : List Triple) → IsServed authority quads triples → AreFew triples → PassesMost 16777215 authority quads → ⊥
+  many_few : (quads : List Triple) (triples : List Triple) → IsServed authority quads triples → AreFew triples → PassesMost MOST_TRIPLES authority quads → ⊥
   many_few quads triples s few m =
       let same : m.triples ≡ triples = served_one authority quads m.triples triples m.served s in
       let terms : m.terms ≡ few.0 = ranking_one triples m.terms few.0 (subst (λ (ts : List Triple). IsRanking ts m.terms) same m.ranking) few.1 in
@@ -112,14 +99,14 @@ module _ (files : Files) (name : List ℕ) (choice : Choice) (authority : List �
       let b : length m.terms ≡ length few.0 = ap length terms in
       passed m.passes a b few.2 few.3
     where
-      passed : {x y z w : ℕ} → (16777215 < x) ⊎ (16777215 < y) → x ≡ z → y ≡ w → z ≤ 16777215 → w ≤ 16777215 → ⊥
+      passed : {x y z w most : ℕ} → (most < x) ⊎ (most < y) → x ≡ z → y ≡ w → z ≤ most → w ≤ most → ⊥
       passed (inl h) p q r s = omega (arith, h, p, r)
       passed (inr h) p q r s = omega (arith, h, q, s)
 
   many_served : (triples : List Triple) → HasTooMany files name choice authority → Serves files name choice authority triples → ⊥
   many_served triples m s =
       let quads = held_same files name m.0 s.0 m.1 s.1 in
-      many_few (chosen choice s.0) triples s.3 s.4 (subst (λ (qs : List Quad). PassesMost 16777215 authority (chosen choice qs)) quads m.2)
+      many_few (chosen choice s.0) triples s.3 s.4 (subst (λ (qs : List Quad). PassesMost MOST_TRIPLES authority (chosen choice qs)) quads m.2)
 
   served_same : (a b : List Triple) → Serves files name choice authority a → Serves files name choice authority b → a ≡ b
   served_same a b s t =

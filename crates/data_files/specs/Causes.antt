@@ -4,14 +4,17 @@ use Rattle.tpf_base.specs.Causes.{Rose}
 use Rattle.tpf_base.specs.Outside.{ShelfState}
 use Rattle.tpf_base.specs.declared.shelf.FileFault.{FileFault}
 use Rattle.tpf_base.specs.declared.shelf.FileFault.TheVariants as unreadable
+use Rattle.rdf_terms.specs.declared.limits.TheConstants.{MOST_TRIPLES}
 use Rattle.rdf_terms.specs.declared.term.Quad.{Quad}
 use Rattle.triple_table.specs.declared.choice.Choice.{Choice}
 use Rattle.triple_table.specs.Chosen.{chosen}
 use Rattle.triple_table.specs.Stored.{Stored, PassesMost, triples_in}
 use Rattle.triple_table.specs.Served.{IsLeastClash}
+use Rattle.query_tokens.specs.declared.piece.TheConstants.{LONGEST_QUERY}
 use Rattle.pattern_parser.specs.declared.fault.QueryWhy.TheVariants as queries
 use Rattle.group_faults.specs.declared.fault.GroupWhy.TheVariants.{Basic}
 use Rattle.group_parser.specs.declared.reading.Asked.{Asked}
+use Rattle.data_files.specs.declared.data.TheConstants.{MOST_BYTES}
 use Rattle.data_files.specs.declared.fault.DataFault.{DataFault}
 use Rattle.data_files.specs.declared.fault.DataFault.TheVariants as faults
 use Rattle.data_files.specs.declared.fault.QueryFileFault.{QueryFileFault}
@@ -28,12 +31,12 @@ unread unreadable.OutOfMemory = faults.OutOfMemory
 
 abbrev pub unread_query : FileFault → QueryFileFault
 unread_query unreadable.Failed = query_faults.File
-unread_query unreadable.TooLong = query_faults.Bad 262144 (Basic queries.TooLong)
+unread_query unreadable.TooLong = query_faults.Bad LONGEST_QUERY (Basic queries.TooLong)
 unread_query unreadable.OutOfMemory = query_faults.OutOfMemory
 
 -- what a fault of the data of a file rests on, by the shelf before and after it was read
 abbrev pub DataCause : ShelfState → ShelfState → List ℕ → Choice → List ℕ → DataFault → Type 0
-DataCause old new name choice authority faults.TooLong = IfTold old.told (λ files. IsTooLong files name 1073741824)
+DataCause old new name choice authority faults.TooLong = IfTold old.told (λ files. IsTooLong files name MOST_BYTES)
 DataCause old new name choice authority (faults.Bad line why) = IfTold old.told (λ files. HasDataFault files name line why)
 DataCause old new name choice authority (faults.GenidClash label) =
     IfTold old.told (λ files. HasClash files name choice authority label)
@@ -46,7 +49,7 @@ abbrev pub ServeCause : List Quad → Choice → List ℕ → DataFault → Type
 ServeCause quads choice authority faults.TooLong = ⊥
 ServeCause quads choice authority (faults.Bad line why) = ⊥
 ServeCause quads choice authority (faults.GenidClash label) = IsLeastClash authority (chosen choice quads) label
-ServeCause quads choice authority faults.TooMany = PassesMost 16777215 authority (chosen choice quads)
+ServeCause quads choice authority faults.TooMany = PassesMost MOST_TRIPLES authority (chosen choice quads)
 ServeCause quads choice authority faults.File = ⊥
 ServeCause quads choice authority faults.OutOfMemory = Unit {0}
 

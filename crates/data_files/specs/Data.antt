@@ -1,6 +1,7 @@
 -- What a file of data holds, and what is served of it.
 use Rattle.std.specs.Prelude.{ℕ, ◌≡◌, ◌<◌, ◌≤◌, List, length, Option, Some}
 use Rattle.tpf_base.specs.Outside.{content_of}
+use Rattle.rdf_terms.specs.declared.limits.TheConstants.{LONGEST_TERM, MOST_TRIPLES}
 use Rattle.rdf_terms.specs.declared.term.Term.{Term}
 use Rattle.rdf_terms.specs.declared.term.Triple.{Triple}
 use Rattle.rdf_terms.specs.declared.term.Quad.{Quad}
@@ -10,6 +11,7 @@ use Rattle.triple_table.specs.declared.choice.Choice.{Choice}
 use Rattle.triple_table.specs.Chosen.{chosen}
 use Rattle.triple_table.specs.Stored.{IsRanking, PassesMost}
 use Rattle.triple_table.specs.Served.{Clashes, IsLeastClash, IsServed}
+use Rattle.data_files.specs.declared.data.TheConstants.{MOST_BYTES}
 
 -- the contents of files by their names
 abbrev pub Files : Type 0
@@ -25,9 +27,9 @@ pub record OfContents (told : Option Files) (P : Files → Type 0) : Type 0 wher
   pub holds : P files
   pub tells : IfTold told P
 
--- the file holds at most 1073741824 bytes, which read as these quads; no term has a canonical text of more than 262144 bytes
+-- the file holds at most MOST_BYTES bytes, which read as these quads; no term has a canonical text of more than LONGEST_TERM bytes
 abbrev pub HoldsData : Files → List ℕ → List Quad → Type 0
-HoldsData files name quads = (bytes : List ℕ) × (content_of files name ≡ Some bytes) × (length bytes ≤ 1073741824) × Reads bytes 262144 quads
+HoldsData files name quads = (bytes : List ℕ) × (content_of files name ≡ Some bytes) × (length bytes ≤ MOST_BYTES) × Reads bytes LONGEST_TERM quads
 
 -- the file holds more bytes than are read
 abbrev pub IsTooLong : Files → List ℕ → ℕ → Type 0
@@ -35,19 +37,19 @@ IsTooLong files name most = (bytes : List ℕ) × (content_of files name ≡ Som
 
 -- the first line with a fault, and its first fault
 abbrev pub HasDataFault : Files → List ℕ → ℕ → Why → Type 0
-HasDataFault files name line why = (bytes : List ℕ) × (content_of files name ≡ Some bytes) × (length bytes ≤ 1073741824) × FirstFault bytes 262144 line why
+HasDataFault files name line why = (bytes : List ℕ) × (content_of files name ≡ Some bytes) × (length bytes ≤ MOST_BYTES) × FirstFault bytes LONGEST_TERM line why
 
 -- the least label of which a blank node and its IRI under the authority both stand in the chosen triples
 abbrev pub HasClash : Files → List ℕ → Choice → List ℕ → List ℕ → Type 0
 HasClash files name choice authority label = (quads : List Quad) × HoldsData files name quads × IsLeastClash authority (chosen choice quads) label
 
--- no label clashes, and the distinct triples of the chosen graphs, or their distinct terms, are more than 16777215
+-- no label clashes, and the distinct triples of the chosen graphs, or their distinct terms, are more than MOST_TRIPLES
 abbrev pub HasTooMany : Files → List ℕ → Choice → List ℕ → Type 0
-HasTooMany files name choice authority = (quads : List Quad) × HoldsData files name quads × PassesMost 16777215 authority (chosen choice quads)
+HasTooMany files name choice authority = (quads : List Quad) × HoldsData files name quads × PassesMost MOST_TRIPLES authority (chosen choice quads)
 
--- the triples and their terms are not more than 16777215 each
+-- the triples and their terms are not more than MOST_TRIPLES each
 abbrev pub AreFew : List Triple → Type 0
-AreFew triples = (terms : List Term) × IsRanking triples terms × (length triples ≤ 16777215) × (length terms ≤ 16777215)
+AreFew triples = (terms : List Term) × IsRanking triples terms × (length triples ≤ MOST_TRIPLES) × (length terms ≤ MOST_TRIPLES)
 
 -- the file is read, and these are the triples that are served of it under the authority
 abbrev pub Serves : Files → List ℕ → Choice → List ℕ → List Triple → Type 0
@@ -67,7 +69,7 @@ pub data Outcome : Type 0 where
 
 abbrev pub IsOutcome : Files → List ℕ → Choice → List ℕ → Outcome → Type 0
 IsOutcome files name choice authority (served triples) = Serves files name choice authority triples
-IsOutcome files name choice authority too_long = IsTooLong files name 1073741824
+IsOutcome files name choice authority too_long = IsTooLong files name MOST_BYTES
 IsOutcome files name choice authority (bad line why) = HasDataFault files name line why
 IsOutcome files name choice authority (clash label) = HasClash files name choice authority label
 IsOutcome files name choice authority too_many = HasTooMany files name choice authority

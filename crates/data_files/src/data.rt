@@ -5,25 +5,19 @@ ghost use Rattle.rdf_terms.specs.Triples.{IsRdfQuad};
 ghost use Rattle.triple_table.specs.Chosen.{chosen};
 ghost use Rattle.triple_table.specs.Served.{Clashes, IsServed};
 ghost use Rattle.triple_table.specs.Stored.{triples_in};
-ghost use Rattle.data_files.specs.Data.{OfContents, HoldsData, AreFew, IsOfFile, OneOutcome};
+ghost use Rattle.data_files.specs.Data.{OfContents, HoldsData, AreFew, IsOfFile};
 ghost use Rattle.data_files.specs.Kept.{ReadsNamed};
 ghost use Rattle.data_files.specs.Causes.{DataCause, ServeCause, DataDecides, Gives, unread};
 
 use crate::DataFault;
 use nquads_text::{TextFault, read_all};
-use rdf_terms::Quad;
+use rdf_terms::{LONGEST_TERM, MOST_TRIPLES, Quad};
 use std::alloc::Global;
 use tpf_base::{FileFault, Shelf, read_file};
 use triple_table::{BuildFault, Choice, Table};
 
 /// The most bytes of a file of data.
-const MOST_DATA: usize = 1073741824;
-
-/// The most bytes of the canonical text of a term.
-const LONGEST_TERM: usize = 262144;
-
-/// The most triples, and the most terms, that are served.
-const MOST_TRIPLES: u32 = 16777215;
+pub const MOST_BYTES: usize = 1073741824;
 
 fn unread(fault: FileFault) -> DataFault
     ensures { result ≡ unread fault }
@@ -43,7 +37,7 @@ fn read_quads<F: Shelf>(alloc: Global, shelf: &mut F, name: &str) -> Result<Vec<
         IfErr result (DataCause (F.state shelf.old) (F.state shelf.new) name.now choice authority) }
     ensures reads { ReadsNamed name.now (F.state shelf.old) (F.state shelf.new) (result ≡ Err DataFault.File) }
 {
-    let bytes = match read_file(alloc, shelf, name, MOST_DATA) {
+    let bytes = match read_file(alloc, shelf, name, MOST_BYTES) {
         Ok(bytes) => bytes,
         Err(fault) => return Err(unread(fault)),
     };
@@ -107,9 +101,3 @@ pub fn read_table<F: Shelf>(
     };
     serve_quads(alloc, &quads, choice, authority)
 }
-
-/// The data of a file have one outcome at most: they are served, as one data set, or have one fault.
-/// The call does nothing; it tells a proof of it.
-pub fn one_data_outcome()
-    ensures { OneOutcome }
-{}

@@ -8,14 +8,15 @@ use tpf_base::Text;
 /// two are said by that alone, and at most one of them is true.
 #[derive(Debug, Drop)]
 pub enum DataFault {
-    /// The file has more than 1073741824 bytes.
+    /// The file has more than `MOST_BYTES` (1073741824) bytes.
     TooLong,
     /// The first line with a fault, and its first fault. No term has a canonical text of more than
-    /// 262144 bytes.
+    /// `LONGEST_TERM` (262144) bytes.
     Bad { line: u64, why: Why },
     /// The least label of a blank node whose Skolem IRI stands in the chosen triples already.
     GenidClash(Text),
-    /// The distinct triples that are chosen, or their distinct terms, are more than 16777215.
+    /// The distinct triples that are chosen, or their distinct terms, are more than `MOST_TRIPLES`
+    /// (16777215).
     TooMany,
     /// The file could not be read: the shelf's count of faults rose.
     File,
@@ -27,7 +28,7 @@ pub enum DataFault {
 #[derive(Clone, Copy, Debug, PartialEq, Eq)]
 pub enum QueryFileFault {
     /// The first fault of the query, and the byte at which it stands, from 0, in the grammar of queries
-    /// with groups. A file of more than 262144 bytes is too long a query, at byte 262144.
+    /// with groups. A file of more than `LONGEST_QUERY` (262144) bytes is too long a query, at that byte.
     Bad { at: usize, why: GroupWhy },
     /// The file could not be read: the shelf's count of faults rose.
     File,

@@ -11,8 +11,9 @@
 
 mod data;
 mod fault;
+pub mod laws;
 mod query;
 
-pub use data::{one_data_outcome, read_table};
+pub use data::{MOST_BYTES, read_table};
 pub use fault::{DataFault, QueryFileFault};
-pub use query::{Grammar, one_query_outcome, read_patterns, read_query};
+pub use query::{Grammar, read_patterns, read_query};

@@ -1,6 +1,6 @@
 // The query of a file.
 ghost use Rattle.std.specs.Prelude.{◌≡◌, Err, IfOk, IfErr};
-ghost use Rattle.data_files.specs.Queries.{IsOfAskedFile, IsOfQueryFile, OneQueryOutcome};
+ghost use Rattle.data_files.specs.Queries.{IsOfAskedFile, IsOfQueryFile};
 ghost use Rattle.data_files.specs.Kept.{ReadsNamed};
 ghost use Rattle.data_files.specs.Causes.{QueryCause, QueryDecides, GivesQuery, unread_query};
 
@@ -9,11 +9,9 @@ use bgp_core::Query;
 use group_faults::{GroupFault, GroupWhy};
 use group_parser::{Asked, parse_asked};
 use pattern_parser::{QueryFault, QueryWhy, parse};
+use query_tokens::LONGEST_QUERY;
 use std::alloc::Global;
 use tpf_base::{FileFault, Shelf, read_file};
-
-/// The most bytes of a file of a query.
-const MOST_QUERY: usize = 262144;
 
 /// What the text of a query may hold.
 #[derive(Clone, Copy, Debug, PartialEq, Eq)]
@@ -30,7 +28,7 @@ fn unread(fault: FileFault) -> QueryFileFault
     match fault {
         FileFault::Failed => QueryFileFault::File,
         FileFault::TooLong => QueryFileFault::Bad {
-            at: MOST_QUERY,
+            at: LONGEST_QUERY,
             why: GroupWhy::Basic(QueryWhy::TooLong),
         },
         FileFault::OutOfMemory => QueryFileFault::OutOfMemory,
@@ -43,7 +41,7 @@ fn read_groups<F: Shelf>(alloc: Global, shelf: &mut F, name: &str) -> Result<Ask
     ensures err { IfErr result (QueryCause Grammar.Groups (F.state shelf.old) (F.state shelf.new) name.now) }
     ensures reads { ReadsNamed name.now (F.state shelf.old) (F.state shelf.new) (result ≡ Err QueryFileFault.File) }
 {
-    let bytes = match read_file(alloc, shelf, name, MOST_QUERY) {
+    let bytes = match read_file(alloc, shelf, name, LONGEST_QUERY) {
         Ok(bytes) => bytes,
         Err(fault) => return Err(unread(fault)),
     };
@@ -54,9 +52,9 @@ fn read_groups<F: Shelf>(alloc: Global, shelf: &mut F, name: &str) -> Result<Ask
     }
 }
 
-/// Reads the query of a file, a text of at most 262144 bytes, as one basic graph pattern (SPARQL 1.1 Query,
-/// 5.1 and 19.8). What makes a query one with groups (DISTINCT, OPTIONAL, UNION, a group in another) has no
-/// place in its grammar.
+/// Reads the query of a file, a text of at most `LONGEST_QUERY` (262144) bytes, as one basic graph pattern
+/// (SPARQL 1.1 Query, 5.1 and 19.8). What makes a query one with groups (DISTINCT, OPTIONAL, UNION, a group in
+/// another) has no place in its grammar.
 ///
 /// The faults, and what becomes of the shelf, are as of `read_query` by that grammar.
 pub fn read_patterns<F: Shelf>(
@@ -68,7 +66,7 @@ pub fn read_patterns<F: Shelf>(
     ensures err { IfErr result (QueryCause Grammar.Patterns (F.state shelf.old) (F.state shelf.new) name.now) }
     ensures reads { ReadsNamed name.now (F.state shelf.old) (F.state shelf.new) (result ≡ Err QueryFileFault.File) }
 {
-    let bytes = match read_file(alloc, shelf, name, MOST_QUERY) {
+    let bytes = match read_file(alloc, shelf, name, LONGEST_QUERY) {
         Ok(bytes) => bytes,
         Err(fault) => return Err(unread(fault)),
     };
@@ -110,9 +108,9 @@ fn read_by<F: Shelf>(
     }
 }
 
-/// Reads the query of a file: a text of at most 262144 bytes (SPARQL 1.1 Query, 19.8). It is a query of
-/// one basic graph pattern where its tokens hold none of DISTINCT, OPTIONAL and UNION and one `{`. Else it is
-/// a query with groups, where the grammar has them.
+/// Reads the query of a file: a text of at most `LONGEST_QUERY` (262144) bytes (SPARQL 1.1 Query, 19.8). It is
+/// a query of one basic graph pattern where its tokens hold none of DISTINCT, OPTIONAL and UNION and one `{`.
+/// Else it is a query with groups, where the grammar has them.
 ///
 /// `Bad` comes exactly where the file holds a text that is no query by the grammar, with its first fault,
 /// `File` only where the shelf's count of faults rose, and `OutOfMemory` where memory ran out. What the shelf
@@ -132,9 +130,3 @@ pub fn read_query<F: Shelf>(
 {
     read_by(alloc, shelf, name, grammar)
 }
-
-/// The text of a file has one outcome at most by each grammar: it is one query without groups, one with groups,
-/// or has one first fault. The call does nothing; it tells a proof of it.
-pub fn one_query_outcome()
-    ensures { OneQueryOutcome }
-{}

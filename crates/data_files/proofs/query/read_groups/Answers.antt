@@ -1,16 +1,13 @@
-use Rattle.std.proofs.Common.{ℕ, List, subst, rules}
+use Rattle.std.proofs.Common.{ℕ, List, Err, subst, rules}
 use Rattle.group_parser.specs.Asking.{IsAsked}
-use Rattle.data_files.proofs.Causes.{no_query_file, query_file_failed}
+use Rattle.data_files.proofs.Causes.{no_query_file, query_file_failed, not_read}
 use Rattle.data_files.proofs.Held.{held_query}
 use Rattle.data_files.proofs.query.read_groups.Goals as goal
 
 pub returns-in-Err-clause-reads : goal.returns-in-Err-clause-reads
-returns-in-Err-clause-reads g c = record {
-  asks = c.in-Err.ensures.asks;
-  later = c.in-Err.ensures.cause.later;
-  calm = λ fine. c.in-Err.ensures.cause.unfailed (query_file_failed c.in-Err.fault _ c.unread.ensures fine);
-  spared = λ fine there room. no_query_file c.in-Err.fault _ c.unread.ensures (c.in-Err.ensures.holds fine there room);
-}
+returns-in-Err-clause-reads g c =
+    not_read _ _ _ (Err c.in-Err.fault) _ (query_file_failed c.in-Err.fault _ c.unread.ensures) (no_query_file c.in-Err.fault _ c.unread.ensures)
+    c.in-Err.ensures.asks c.in-Err.ensures.cause c.in-Err.ensures.holds
 
 pub returns-in-Ok-parse_asked-clause-ok : goal.returns-in-Ok-parse_asked-clause-ok
 returns-in-Ok-parse_asked-clause-ok g c =

@@ -1,5 +1,0 @@
-use Rattle.data_files.proofs.Outcomes.{one_outcome}
-use Rattle.data_files.proofs.data.one_data_outcome.Goals as goal
-
-pub returns : goal.returns
-returns c = one_outcome

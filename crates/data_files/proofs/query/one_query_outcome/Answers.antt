@@ -1,5 +1,0 @@
-use Rattle.data_files.proofs.Outcomes.{one_query}
-use Rattle.data_files.proofs.query.one_query_outcome.Goals as goal
-
-pub returns : goal.returns
-returns c = one_query
