@@ -11,7 +11,7 @@ use Rattle.tpf_base.specs.Marks.{Mark, Served, Failed, Starved, version_at}
 use Rattle.template_fill.specs.Metadata.{Config}
 use Rattle.template_fill.specs.Responses.{AreMarks, IsVersion, answering, answers, asks_reload, padding, reload_versions, response_by}
 use Rattle.template_fill.proofs.Histories.{versions_stay}
-use Rattle.http_wire.proofs.ConnectionLemmas.{more_heads}
+use Rattle.http_wire.proofs.ConnectionLemmas.{heads_at, more_heads}
 use Rattle.http_ends.proofs.Marks.{padded}
 use Rattle.http_ends.proofs.Growing.{longer_heads}
 use Rattle.connections.specs.Versions.{IsHistory}
@@ -27,7 +27,6 @@ use Rattle.tpf_server.specs.Conversation as conversations
 use Rattle.tpf_server.specs.Conversation.{Answers, Conversation, Makes, ReadsFurther, opening, owed_text, owes, wants_reload}
 use Rattle.tpf_server.specs.declared.reading.Reading.{Reading}
 use Rattle.tpf_server.specs.declared.reading.Reading.TheVariants.{Reads as Going, Waits, Ended}
-use Rattle.tpf_server.proofs.HeadAnswers.{heads_at}
 use Rattle.tpf_server.proofs.HeadsLaws.{left_heads}
 use Rattle.tpf_server.proofs.MarkLaws.{numbers_front}
 use Rattle.tpf_server.proofs.ConversationLaws.{none_owed}
