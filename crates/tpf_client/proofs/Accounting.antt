@@ -8,7 +8,7 @@ use Rattle.bgp_core.specs.Solutions.{Places}
 use Rattle.request_pool.specs.Pools.{Ask}
 use Rattle.fragment_page.specs.declared.page.Page.{Page}
 use Rattle.join_core.specs.Evaluations.{Account, HandsOver, GivesOwed}
-use Rattle.tpf_client.specs.Traffic.{Event, Asked, Came, Waited, Broke}
+use Rattle.tpf_client.specs.Traffic.{PoolEvent, Asked, Came, Waited, Broke}
 use Rattle.tpf_client.specs.Causes.{Versions}
 use Rattle.tpf_client.specs.Asking.{AreWaits}
 use Rattle.tpf_client.specs.Turns.{HandsAll, GivesAll, Owes, OwesMore, address_of, asked_in, AreTrue, IsPageReply, ArePages}
@@ -67,7 +67,7 @@ more-then a b rows more first second p q = record {
 
 -- ---- the asks among events
 
-pub asked-append : (first second : List Event) → asked_in (first ++ second) ≡ asked_in first ++ asked_in second
+pub asked-append : (first second : List PoolEvent) → asked_in (first ++ second) ≡ asked_in first ++ asked_in second
 asked-append [] second = refl
 asked-append (Asked ask ∷ first) second = ap (λ (l : List Ask). ask ∷ l) (asked-append first second)
 asked-append (Came ask reply ∷ first) second = asked-append first second
@@ -78,15 +78,15 @@ pub asked-asks : (asks : List Ask) → asked_in (map Asked asks) ≡ asks
 asked-asks [] = refl
 asked-asks (ask ∷ asks) = ap (λ (l : List Ask). ask ∷ l) (asked-asks asks)
 
-pub pages-then : (versions : Versions) (first second : List Event) → ArePages versions first → ArePages versions second → ArePages versions (first ++ second)
+pub pages-then : (versions : Versions) (first second : List PoolEvent) → ArePages versions first → ArePages versions second → ArePages versions (first ++ second)
 pages-then versions [] second f s = s
 pages-then versions (event ∷ first) second f s = (f.0, pages-then versions first second f.1 s)
 
-page-waited : (versions : Versions) (event : Event) → event ≡ Waited → IsPageReply versions event
+page-waited : (versions : Versions) (event : PoolEvent) → event ≡ Waited → IsPageReply versions event
 page-waited versions event e = subst (IsPageReply versions) (sym e) tt
 
 -- no reply came where each step waited, and none where asks were put
-pub pages-waits : (versions : Versions) (events : List Event) → AreWaits events → ArePages versions events
+pub pages-waits : (versions : Versions) (events : List PoolEvent) → AreWaits events → ArePages versions events
 pages-waits versions [] h = tt
 pages-waits versions (event ∷ events) h = (page-waited versions event h.0, pages-waits versions events h.1)
 
@@ -94,19 +94,19 @@ pub pages-asks : (versions : Versions) (asks : List Ask) → ArePages versions (
 pages-asks versions [] = tt
 pages-asks versions (ask ∷ asks) = (tt, pages-asks versions asks)
 
-pub asked-waits : (events : List Event) → AreWaits events → asked_in events ≡ []
+pub asked-waits : (events : List PoolEvent) → AreWaits events → asked_in events ≡ []
 asked-waits [] h = refl
 asked-waits (event ∷ events) h = waited event events h.0 ∙ asked-waits events h.1
   where
-    waited : (event : Event) (events : List Event) → event ≡ Waited → asked_in (event ∷ events) ≡ asked_in events
-    waited event events e = ap (λ (x : Event). asked_in (x ∷ events)) e
+    waited : (event : PoolEvent) (events : List PoolEvent) → event ≡ Waited → asked_in (event ∷ events) ≡ asked_in events
+    waited event events e = ap (λ (x : PoolEvent). asked_in (x ∷ events)) e
 
 -- ---- true pages
 
-pub true-first : (is_true : Address → Page → Type 0) (versions : Versions) (first second : List Event) → AreTrue is_true versions (first ++ second) → AreTrue is_true versions first
+pub true-first : (is_true : Address → Page → Type 0) (versions : Versions) (first second : List PoolEvent) → AreTrue is_true versions (first ++ second) → AreTrue is_true versions first
 true-first is_true versions [] second h = tt
 true-first is_true versions (event ∷ first) second h = (h.0, true-first is_true versions first second h.1)
 
-pub true-second : (is_true : Address → Page → Type 0) (versions : Versions) (first second : List Event) → AreTrue is_true versions (first ++ second) → AreTrue is_true versions second
+pub true-second : (is_true : Address → Page → Type 0) (versions : Versions) (first second : List PoolEvent) → AreTrue is_true versions (first ++ second) → AreTrue is_true versions second
 true-second is_true versions [] second h = h
 true-second is_true versions (event ∷ first) second h = true-second is_true versions first second h.1

@@ -5,7 +5,7 @@ use Rattle.std.proofs.lemmas.List.Sorted.{IsPermutation-refl, IsPermutation-sym,
 use Rattle.tpf_base.specs.Links.{WireState}
 use Rattle.request_pool.specs.Faults.{kept_of}
 use Rattle.request_pool.specs.Pools.{Pooled, Ask, held}
-use Rattle.tpf_client.specs.Traffic.{Event, Asked, Came, Waited, Broke, Travels, Comes, StepWaits, StepBreaks}
+use Rattle.tpf_client.specs.Traffic.{PoolEvent, Asked, Came, Waited, Broke, Travels, Comes, StepWaits, StepBreaks}
 use Rattle.tpf_client.specs.Turns.{asked_in, answered_in}
 use Rattle.tpf_client.proofs.Distinct.{put-held}
 use Rattle.tpf_client.proofs.Fewest.{no-break}
@@ -25,7 +25,7 @@ waited-then p q asks x h i = IsPermutation-trans (p ++ asks) (q ++ asks) x (IsPe
 nothing-asked : (p q : Pooled) → q ≡ p → IsPermutation (held p ++ []) (held q)
 nothing-asked p q e = subst (λ (x : Pooled). IsPermutation (held p ++ []) (held x)) (sym e) (subst (λ (l : List Ask). IsPermutation l (held p)) (sym (append-nil (held p))) (IsPermutation-refl (held p)))
 
-answers-so : (allows : List ℕ → ℕ → List ℕ → List ℕ → Type 0) (events : List Event) (p q : Pooled) (v w : WireState) → Travels allows events p q v w → q.fault ≡ None → IsPermutation (held p ++ asked_in events) (answered_in events ++ held q)
+answers-so : (allows : List ℕ → ℕ → List ℕ → List ℕ → Type 0) (events : List PoolEvent) (p q : Pooled) (v w : WireState) → Travels allows events p q v w → q.fault ≡ None → IsPermutation (held p ++ asked_in events) (answered_in events ++ held q)
 answers-so allows [] p q v w t none = nothing-asked p q t.0
 answers-so allows (Asked ask ∷ events) p q v w t none =
     asked-then ask (held p) (held t.0.pool) (asked_in events) (answered_in events ++ held q) (put-held ask p t.0.pool t.1.happens.0) (answers-so allows events t.0.pool q t.0.wire w t.2 none)
@@ -38,7 +38,7 @@ answers-so allows (Waited ∷ events) p q v w t none =
 answers-so allows (Broke fault ∷ events) p q v w t none = let h : StepBreaks fault p t.0.pool v t.0.wire = t.1.happens in absurd (no-break allows (kept_of fault) events t.0.pool q t.0.wire w h.kept t.2 none)
 
 -- where nothing is held at first and at last
-pub all-answered : (allows : List ℕ → ℕ → List ℕ → List ℕ → Type 0) (events : List Event) (p q : Pooled) (v w : WireState) → Travels allows events p q v w → q.fault ≡ None → held p ≡ [] → held q ≡ [] → IsPermutation (asked_in events) (answered_in events)
+pub all-answered : (allows : List ℕ → ℕ → List ℕ → List ℕ → Type 0) (events : List PoolEvent) (p q : Pooled) (v w : WireState) → Travels allows events p q v w → q.fault ≡ None → held p ≡ [] → held q ≡ [] → IsPermutation (asked_in events) (answered_in events)
 all-answered allows events p q v w t none first last =
     subst (λ (l : List Ask). IsPermutation (asked_in events) l) (append-nil (answered_in events))
     (subst (λ (l : List Ask). IsPermutation (asked_in events) (answered_in events ++ l)) last (subst (λ (l : List Ask). IsPermutation (l ++ asked_in events) (answered_in events ++ held q)) first (answers-so allows events p q v w t none)))

@@ -6,7 +6,7 @@ use Rattle.bgp_core.specs.Queries.{QueryData}
 use Rattle.request_pool.specs.Pools.{Pooled}
 use Rattle.tpf_client.specs.declared.options.Options.{Options}
 use Rattle.tpf_client.specs.declared.fault.ClientFault.{ClientFault}
-use Rattle.tpf_client.specs.Traffic.{Event, IsLawful}
+use Rattle.tpf_client.specs.Traffic.{PoolEvent, IsLawful}
 use Rattle.tpf_client.specs.Sources.{Sources}
 use Rattle.tpf_client.specs.Offers.{Offer}
 use Rattle.tpf_client.specs.Ends.{Ends}
@@ -23,7 +23,7 @@ use Rattle.tpf_client.proofs.LivelyCauses.{counts-as, counts-so, counts-choice, 
 use Rattle.tpf_client.proofs.Spending.{spent-over}
 
 module _ (laws : Laws) (traffic : TrafficLaws) (allows : List ℕ → ℕ → List ℕ → List ℕ → Type 0) (options : Options) (since now : WireState) (lawful : IsLawful allows since) (limit : options.max_body < 2 ^ 64) (starts : List Address) (sources : Sources) (q : QueryData) (h : Happened allows options starts since now) where
-  abbrev Call : List Event → Pooled → Type 0
+  abbrev Call : List PoolEvent → Pooled → Type 0
   Call events pool = AreThese h.events h.pool events pool
 
   -- so many requests were started in what happened
@@ -31,7 +31,7 @@ module _ (laws : Laws) (traffic : TrafficLaws) (allows : List ℕ → ℕ → Li
   Started n = n ≡ h.pool.started
 
   -- they are a run of the pool
-  abbrev goes : (events : List Event) (pool : Pooled) → Call events pool → RunsPool allows options since now events pool
+  abbrev goes : (events : List PoolEvent) (pool : Pooled) → Call events pool → RunsPool allows options since now events pool
   goes events pool is = these-run allows options since now starts h events pool is
 
   module _ (offer : Offer) (covered : Covered sources offer allows options since now starts q) where

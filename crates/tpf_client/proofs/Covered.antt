@@ -17,7 +17,7 @@ use Rattle.join_core.specs.Evaluations.{HasHome}
 use Rattle.tpf_client.specs.declared.options.Options.{Options}
 use Rattle.tpf_client.specs.declared.options.Report.{Report}
 use Rattle.tpf_client.specs.declared.fault.ClientFault.{ClientFault}
-use Rattle.tpf_client.specs.Traffic.{Event}
+use Rattle.tpf_client.specs.Traffic.{PoolEvent}
 use Rattle.tpf_client.specs.Turns.{AsksAt}
 use Rattle.tpf_client.specs.Told.{told_at, told_first}
 use Rattle.tpf_client.specs.Starts.{ReadsStarts, forms_of, versions_of}
@@ -36,7 +36,7 @@ pub record BeginsWith (offer : Offer) (starts : List Address) (choice : offer.Ch
   pub addresses : starts ++ rest ≡ offer.addresses choice
 
 -- The choice of which the start pages and the replies behind them are: it has the versions that these pages told, and a source for which all pages that came are true has its rows and its addresses.
-pub record ChoiceBehind (sources : Sources) (offer : Offer) (q : QueryData) (starts : List Address) (first later : List Event) (told : List Page) (reads : ReadsStarts starts told first) : Type 0 where
+pub record ChoiceBehind (sources : Sources) (offer : Offer) (q : QueryData) (starts : List Address) (first later : List PoolEvent) (told : List Page) (reads : ReadsStarts starts told first) : Type 0 where
   pub choice : offer.Choice
   pub is_choice : offer.IsChoice choice
   pub versions : Address → ℕ
@@ -64,7 +64,7 @@ pub record Covered (sources : Sources) (offer : Offer) (allows : List ℕ → �
   pub first : offer.Choice
   pub is_first : offer.IsChoice first
   pub begins : (choice : offer.Choice) → offer.IsChoice choice → BeginsWith offer starts choice
-  pub behind : (first later : List Event) (pool : Pooled) → RunsPool allows options since now (first ++ later) pool → AsksAt starts (first ++ later) → (told : List Page) (reads : ReadsStarts starts told first) → ChoiceBehind sources offer q starts first later told reads
+  pub behind : (first later : List PoolEvent) (pool : Pooled) → RunsPool allows options since now (first ++ later) pool → AsksAt starts (first ++ later) → (told : List Page) (reads : ReadsStarts starts told first) → ChoiceBehind sources offer q starts first later told reads
   pub stands : (address : Address) → HasHome starts address → StandsThere allows offer address
   pub numbers : (choice : offer.Choice) → offer.IsChoice choice → (address : Address) (server : Publisher) (version : ℕ) → offer.StandsAt address server → offer.HasVersion choice address version → IsVersionOf server.history version
 
@@ -78,7 +78,7 @@ served-at sources offer allows options since now starts q covered address own =
 -- ---- the rows
 
 module _ (sources : Sources) (offer : Offer) (allows : List ℕ → ℕ → List ℕ → List ℕ → Type 0) (options : Options) (since now : WireState) (starts : List Address) (q : QueryData) (covered : Covered sources offer allows options since now starts q)
-    (ran : List Event → Pooled → Type 0) (goes : (events : List Event) (pool : Pooled) → ran events pool → RunsPool allows options since now events pool) where
+    (ran : List PoolEvent → Pooled → Type 0) (goes : (events : List PoolEvent) (pool : Pooled) → ran events pool → RunsPool allows options since now events pool) where
   pub solutions-written : (report : Report) (t u : Option (List ℕ)) → WritesAll ran sources q starts report t u → WritesSolutions offer q report.version report.rows t u
   solutions-written report t u w =
       let r = w.returns in

@@ -12,7 +12,7 @@ use Rattle.request_pool.specs.Closing.{ClosesSome}
 use Rattle.tpf_client.specs.declared.options.Options.{Options}
 use Rattle.tpf_client.specs.declared.options.Report.{Report}
 use Rattle.tpf_client.specs.declared.fault.ClientFault.{ClientFault}
-use Rattle.tpf_client.specs.Traffic.{Event, IsLawful}
+use Rattle.tpf_client.specs.Traffic.{PoolEvent, IsLawful}
 use Rattle.tpf_client.specs.Sources.{Sources}
 use Rattle.tpf_client.specs.Calls.{Ran, AreThese, Returns, WritesAll, WritesSome, most_over}
 use Rattle.tpf_client.specs.Shown.{WritesShown}
@@ -27,16 +27,16 @@ module _ (laws : Laws) (traffic : TrafficLaws) (allows : List ℕ → ℕ → Li
   abbrev most : ℕ
   most = most_over options q (length starts)
 
-  abbrev From : List Event → Pooled → Type 0
+  abbrev From : List PoolEvent → Pooled → Type 0
   From events pool = Ran allows most begun new since between events pool
 
   -- ---- a text
 
   module _ (out out' : SinkState) where
-    abbrev Text : (List Event → Pooled → Type 0) → Report → Type 0
+    abbrev Text : (List PoolEvent → Pooled → Type 0) → Report → Type 0
     Text ran report = WritesAll ran sources q starts report out.taken out'.taken
 
-    abbrev Front : (List Event → Pooled → Type 0) → ClientFault → Type 0
+    abbrev Front : (List PoolEvent → Pooled → Type 0) → ClientFault → Type 0
     Front ran fault = WritesShown ran sources q starts options.budget fault out out'
 
     text-once : (result : Result Report ClientFault) → IfOk result (Text From) → IfErr result (Front From) → EndedOnce allows options starts most begun new since between now is closes result Text Front
@@ -59,10 +59,10 @@ module _ (laws : Laws) (traffic : TrafficLaws) (allows : List ℕ → ℕ → Li
   -- ---- rows in a list
 
   module _ {A : Type 0} (result : Result A ClientFault) (told : A → Report) (rows : A → List Places) where
-    abbrev Rows : (List Event → Pooled → Type 0) → A → Type 0
+    abbrev Rows : (List PoolEvent → Pooled → Type 0) → A → Type 0
     Rows ran x = Returns ran sources q starts (told x) (rows x)
 
-    abbrev Fails : (List Event → Pooled → Type 0) → ClientFault → Type 0
+    abbrev Fails : (List PoolEvent → Pooled → Type 0) → ClientFault → Type 0
     Fails ran fault = WritesSome ran sources q starts options.budget fault None None
 
     rows-once : IfOk result (Rows From) → IfErr result (Fails From) → EndedOnce allows options starts most begun new since between now is closes result Rows Fails

@@ -11,7 +11,7 @@ use Rattle.request_pool.specs.Pools.{Pooled}
 use Rattle.tpf_client.specs.declared.options.Options.{Options}
 use Rattle.tpf_client.specs.declared.options.Report.{Report}
 use Rattle.tpf_client.specs.declared.fault.ClientFault.{ClientFault}
-use Rattle.tpf_client.specs.Traffic.{Event, IsLawful}
+use Rattle.tpf_client.specs.Traffic.{PoolEvent, IsLawful}
 use Rattle.tpf_client.specs.Turns.{asked_in, address_of}
 use Rattle.tpf_client.specs.Calls.{Returns, WritesSome, Happened, AreThese}
 use Rattle.tpf_client.specs.Sources.{Sources}
@@ -30,7 +30,7 @@ use Rattle.tpf_client.proofs.Sent.{sends-asked}
 use Rattle.tpf_client.proofs.Shutting.{if-err-from, either-way}
 
 -- what holds at each exit, whatever the call answers
-pub record AnyExit (options : Options) (starts : List Address) (events : List Event) (pool : Pooled) (since now : WireState) : Type 0 where
+pub record AnyExit (options : Options) (starts : List Address) (events : List PoolEvent) (pool : Pooled) (since now : WireState) : Type 0 where
   pub closed : AreClosed since now
   pub peers : AreDialledFor starts since now
   pub others : OthersStay since now
@@ -41,7 +41,7 @@ pub record AnyExit (options : Options) (starts : List Address) (events : List Ev
   pub sent : SendsOnly (map address_of (asked_in events)) since now
 
 -- and where it answers rows
-pub record RowsExit (options : Options) (report : Report) (events : List Event) (pool : Pooled) (since now : WireState) : Type 0 where
+pub record RowsExit (options : Options) (report : Report) (events : List PoolEvent) (pool : Pooled) (since now : WireState) : Type 0 where
   pub within : report.requests ≤ options.budget
   pub dials : DialsAtMost report.requests since now
   pub given : GivesAtMost report.requests since now
@@ -157,7 +157,7 @@ module _ (laws : Laws) (traffic : TrafficLaws) (allows : List ℕ → ℕ → Li
 -- ---- a call
 
 module _ (allows : List ℕ → ℕ → List ℕ → List ℕ → Type 0) (options : Options) (since now : WireState) (starts : List Address) (sources : Sources) (q : QueryData) (h : Happened allows options starts since now) where
-  abbrev Call : List Event → Pooled → Type 0
+  abbrev Call : List PoolEvent → Pooled → Type 0
   Call events pool = AreThese h.events h.pool events pool
 
   module _ (offer : Offer) (covered : Covered sources offer allows options since now starts q) where

@@ -16,7 +16,7 @@ use Rattle.pool_laws.specs.Requested.{over_links}
 use Rattle.tpf_client.specs.declared.options.Options.{Options}
 use Rattle.tpf_client.specs.declared.fault.ClientFault.{ClientFault}
 use Rattle.tpf_client.specs.declared.fault.ClientFault.TheVariants as faults
-use Rattle.tpf_client.specs.Traffic.{Event, Broke, Travels, EndsWith, IsLawful, without_fault, StepBreaks}
+use Rattle.tpf_client.specs.Traffic.{PoolEvent, Broke, Travels, EndsWith, IsLawful, without_fault, StepBreaks}
 use Rattle.tpf_client.specs.Causes.{Explains, Versions}
 use Rattle.tpf_client.specs.Sources.{Sources}
 use Rattle.tpf_client.specs.Turns.{AsksAt, asked_in}
@@ -82,7 +82,7 @@ module _ (laws : Laws) (traffic : TrafficLaws) (allows : List ℕ → ℕ → Li
     begun-failing : Failing 0 (begun options) since
     begun-failing = record { knows = begun-knows laws traffic starts options allows since lawful; failures = traffic.empty_fail options.links options.retries options.budget options.max_body since }
 
-    failing-so : (events : List Event) (p : Pooled) (v : WireState) → AllByRecursion IsAt (asked_in events) → Travels allows events (begun options) p since v → Failing (length (asked_in events)) p v
+    failing-so : (events : List PoolEvent) (p : Pooled) (v : WireState) → AllByRecursion IsAt (asked_in events) → Travels allows events (begun options) p since v → Failing (length (asked_in events)) p v
     failing-so events p v a t = by-events allows (begun options) IsAt Failing failing-kept events (begun options) p since v (begun-between laws traffic starts options allows since lawful IsAt) a begun-failing t
 
     module _ (now : WireState) where
@@ -91,17 +91,17 @@ module _ (laws : Laws) (traffic : TrafficLaws) (allows : List ℕ → ℕ → Li
           ap (λ (n : ℕ). over_links (λ k. times_ended (now.links k)) since.given (n - since.given)) given
           ∙ over-same (λ k. times_ended (now.links k)) (λ k. times_ended (v.links k)) (λ k. ap (λ (o : Option Bool). if is_ended o then 1 else 0) (told k).ended) since.given (v.given - since.given)
 
-      ends-by-failures : (fault : PoolFault) (events : List Event) (p : Pooled) → EndsWith (Broke fault) events → RunsPool allows options since now events p → AsksAt starts events → EndsByFailures fault (options.retries + 1) since now
+      ends-by-failures : (fault : PoolFault) (events : List PoolEvent) (p : Pooled) → EndsWith (Broke fault) events → RunsPool allows options since now events p → AsksAt starts events → EndsByFailures fault (options.retries + 1) since now
       ends-by-failures fault events p e r a =
           let x = ending laws traffic allows options since now lawful starts events (Broke fault) p e r a in
           let h : StepBreaks fault x.mid p x.between r.between = x.last.happens in
-          let front = asks-front IsAt x.before (Broke fault ∷ []) (subst (λ (l : List Event). AsksAt starts l) x.is_last a) in
+          let front = asks-front IsAt x.before (Broke fault ∷ []) (subst (λ (l : List PoolEvent). AsksAt starts l) x.is_last a) in
           let b = between-after allows (begun options) IsAt x.before (begun options) x.mid since x.between front (begun-between laws traffic starts options allows since lawful IsAt) x.first in
           let at = taken allows (begun options) IsAt (Broke fault) x.mid p x.between r.between h.some h.had_none b x.last in
           let s = step-fails (length (asked_in x.before)) (Err fault) x.mid p (without_fault p) x.between r.between at (failing-so x.before x.mid x.between front x.first) h.steps in
           ends-same fault x.mid.retries options.retries since r.between now (ap (λ (y : Pooled). y.retries) at.bounds) r.closes.faults (all-ended r.between r.closes.given x.told) s.fault
 
-      failed-often : (fault : ClientFault) (versions : Versions) (events : List Event) (p : Pooled) → Explains versions options.budget fault events → RunsPool allows options since now events p → AsksAt starts events → IsFailedOften options since now fault
+      failed-often : (fault : ClientFault) (versions : Versions) (events : List PoolEvent) (p : Pooled) → Explains versions options.budget fault events → RunsPool allows options since now events p → AsksAt starts events → IsFailedOften options since now fault
       failed-often faults.Exchange versions events p e r a = ends-by-failures pool.Exchange events p e r a
       failed-often faults.Stalled versions events p e r a = ends-by-failures pool.Stalled events p e r a
       failed-often (faults.Cut received) versions events p e r a = ends-by-failures (pool.Cut received) events p e r a

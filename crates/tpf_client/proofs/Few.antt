@@ -6,7 +6,7 @@ use Rattle.std.proofs.lemmas.List.Sorted.{length_permutation}
 use Rattle.tpf_base.specs.Links.{WireState}
 use Rattle.request_pool.specs.Faults.{kept_of}
 use Rattle.request_pool.specs.Pools.{Pooled, Ask, held}
-use Rattle.tpf_client.specs.Traffic.{Event, Asked, Came, Waited, Broke, Travels, Puts, Comes, StepWaits, StepBreaks}
+use Rattle.tpf_client.specs.Traffic.{PoolEvent, Asked, Came, Waited, Broke, Travels, Puts, Comes, StepWaits, StepBreaks}
 use Rattle.tpf_client.specs.Asking.{PutsAll}
 use Rattle.tpf_client.specs.Turns.{WaitFew, asked_in}
 use Rattle.tpf_client.proofs.Accounting.{asked-asks}
@@ -40,7 +40,7 @@ puts-count (ask ∷ asks) p q h = more-asked (length (held p)) (length (held h.0
 -- ---- events
 
 -- the same where more may wait
-pub few-more : (n m waiting : ℕ) (events : List Event) → n ≤ m → WaitFew n waiting events → WaitFew m waiting events
+pub few-more : (n m waiting : ℕ) (events : List PoolEvent) → n ≤ m → WaitFew n waiting events → WaitFew m waiting events
 few-more n m waiting [] l h = le_trans h l
 few-more n m waiting (Asked ask ∷ events) l h = (le_trans h.0 l, few-more n m (waiting + 1) events l h.1)
 few-more n m waiting (Came ask reply ∷ events) l h = (le_trans h.0 l, few-more n m (waiting - 1) events l h.1)
@@ -48,7 +48,7 @@ few-more n m waiting (Waited ∷ events) l h = few-more n m waiting events l h
 few-more n m waiting (Broke fault ∷ events) l h = few-more n m waiting events l h
 
 -- where no more are asked than may wait still
-pub few-asked : (most waiting : ℕ) (events : List Event) → waiting + length (asked_in events) ≤ most → WaitFew most waiting events
+pub few-asked : (most waiting : ℕ) (events : List PoolEvent) → waiting + length (asked_in events) ≤ most → WaitFew most waiting events
 few-asked most waiting [] h = let l : waiting + length {A = Ask} [] ≤ most = h in let few : waiting ≤ most = omega (arith, l) in few
 few-asked most waiting (Asked ask ∷ events) h =
     let s : length (ask ∷ asked_in events) ≡ suc (length (asked_in events)) = refl in
@@ -59,7 +59,7 @@ few-asked most waiting (Waited ∷ events) h = few-asked most waiting events h
 few-asked most waiting (Broke fault ∷ events) h = few-asked most waiting events h
 
 -- of events in which nothing is asked
-pub few-quiet : (most waiting : ℕ) (events : List Event) → waiting ≤ most → asked_in events ≡ [] → WaitFew most waiting events
+pub few-quiet : (most waiting : ℕ) (events : List PoolEvent) → waiting ≤ most → asked_in events ≡ [] → WaitFew most waiting events
 few-quiet most waiting events l none = let z : length (asked_in events) ≡ length {A = Ask} [] = ap (λ (l : List Ask). length l) none in let y : length {A = Ask} [] ≡ 0 = refl in few-asked most waiting events (omega (arith, l, z, y))
 
 -- of asks that were put, where those that are held at last are few
@@ -70,7 +70,7 @@ few-put most asks p q h l =
     few-asked most (length (held p)) (map Asked asks) (omega (arith, l, more, same))
 
 -- one after another
-pub few-then : (allows : List ℕ → ℕ → List ℕ → List ℕ → Type 0) (most : ℕ) (first second : List Event) (p q : Pooled) (v w : WireState) → Travels allows first p q v w → q.fault ≡ None → WaitFew most (length (held p)) first → WaitFew most (length (held q)) second
+pub few-then : (allows : List ℕ → ℕ → List ℕ → List ℕ → Type 0) (most : ℕ) (first second : List PoolEvent) (p q : Pooled) (v w : WireState) → Travels allows first p q v w → q.fault ≡ None → WaitFew most (length (held p)) first → WaitFew most (length (held q)) second
     → WaitFew most (length (held p)) (first ++ second)
 few-then allows most [] second p q v w t none f s = subst (λ (x : Pooled). WaitFew most (length (held x)) second) t.0 s
 few-then allows most (Asked ask ∷ first) second p q v w t none f s =

@@ -11,7 +11,7 @@ use Rattle.request_pool.specs.Faults.{kept_of}
 use Rattle.request_pool.specs.Pools.{Pooled, Ask, held, in_flight}
 use Rattle.request_pool.specs.Owned.{SuitsWire}
 use Rattle.pool_laws.specs.Counting.{tries, tries_waiting, tries_flying, FewFailed, PutsFewFailed, StepsFewFailed, StepsCountTries}
-use Rattle.tpf_client.specs.Traffic.{Event, Asked, Came, Waited, Broke, Travels, Puts, Comes, StepWaits, StepBreaks}
+use Rattle.tpf_client.specs.Traffic.{PoolEvent, Asked, Came, Waited, Broke, Travels, Puts, Comes, StepWaits, StepBreaks}
 use Rattle.tpf_client.specs.Turns.{asked_in}
 use Rattle.tpf_client.proofs.Distinct.{put-held}
 use Rattle.tpf_client.proofs.Keeping.{not-some}
@@ -21,7 +21,7 @@ use Rattle.tpf_client.proofs.Keeping.{not-some}
 same-some : (a b : Option PoolFault) (fault : PoolFault) → b ≡ a → a ≡ Some fault → b ≡ Some fault
 same-some a b fault e f = e ∙ f
 
-pub fault-stays : (allows : List ℕ → ℕ → List ℕ → List ℕ → Type 0) (fault : PoolFault) (events : List Event) (p q : Pooled) (v w : WireState) → p.fault ≡ Some fault → Travels allows events p q v w → q.fault ≡ Some fault
+pub fault-stays : (allows : List ℕ → ℕ → List ℕ → List ℕ → Type 0) (fault : PoolFault) (events : List PoolEvent) (p q : Pooled) (v w : WireState) → p.fault ≡ Some fault → Travels allows events p q v w → q.fault ≡ Some fault
 fault-stays allows fault [] p q v w f t = same-some p.fault q.fault fault (ap (λ (x : Pooled). x.fault) t.0) f
 fault-stays allows fault (Asked ask ∷ events) p q v w f t =
     let e = ap (λ (x : Pooled). x.fault) t.1.happens.0.put in
@@ -30,7 +30,7 @@ fault-stays allows fault (Came ask reply ∷ events) p q v w f t = let h : Comes
 fault-stays allows fault (Waited ∷ events) p q v w f t = let h : StepWaits p t.0.pool v t.0.wire = t.1.happens in absurd (not-some p.fault fault f h.had_none)
 fault-stays allows fault (Broke other ∷ events) p q v w f t = let h : StepBreaks other p t.0.pool v t.0.wire = t.1.happens in absurd (not-some p.fault fault f h.had_none)
 
-pub no-break : (allows : List ℕ → ℕ → List ℕ → List ℕ → Type 0) (fault : PoolFault) (events : List Event) (p q : Pooled) (v w : WireState) → p.fault ≡ Some fault → Travels allows events p q v w → q.fault ≡ None → ⊥
+pub no-break : (allows : List ℕ → ℕ → List ℕ → List ℕ → Type 0) (fault : PoolFault) (events : List PoolEvent) (p q : Pooled) (v w : WireState) → p.fault ≡ Some fault → Travels allows events p q v w → q.fault ≡ None → ⊥
 no-break allows fault events p q v w f t n = not-some q.fault fault (fault-stays allows fault events p q v w f t) n
 
 -- ---- tries and asks
@@ -71,7 +71,7 @@ module _ (few-puts : PutsFewFailed) (few-steps : StepsFewFailed) (counts : Steps
   least-same : (n : ℕ) (p q : Pooled) → q ≡ p → Least n p → n + length {A = Ask} [] + tries q ≤ q.started + length (held q)
   least-same n p q e l = let z : length {A = Ask} [] ≡ 0 = refl in let f = (subst (Least n) (sym e) l).least in omega (arith, z, f)
 
-  pub least-so : (events : List Event) (n : ℕ) (p q : Pooled) (v w : WireState) → OpensGiven v → SuitsWire p v → Least n p → Travels allows events p q v w → q.fault ≡ None → n + length (asked_in events) + tries q ≤ q.started + length (held q)
+  pub least-so : (events : List PoolEvent) (n : ℕ) (p q : Pooled) (v w : WireState) → OpensGiven v → SuitsWire p v → Least n p → Travels allows events p q v w → q.fault ≡ None → n + length (asked_in events) + tries q ≤ q.started + length (held q)
   least-so [] n p q v w g s l t none = least-same n p q t.0 l
   least-so (Asked ask ∷ events) n p q v w g s l t none =
       let r = least-so events (n + 1) t.0.pool q t.0.wire w t.1.lawful.given t.1.suits (least-put ask n p t.0.pool t.1.happens.0 l) t.2 none in
@@ -89,7 +89,7 @@ module _ (few-puts : PutsFewFailed) (few-steps : StepsFewFailed) (counts : Steps
       (record { few = few-steps (Ok stepped.Waited) p t.0.pool v t.0.wire g s l.few h.steps; least = least-waited n p t.0.pool h.others c l.least }) t.2 none
   least-so (Broke fault ∷ events) n p q v w g s l t none = let h : StepBreaks fault p t.0.pool v t.0.wire = t.1.happens in absurd (no-break allows (kept_of fault) events t.0.pool q t.0.wire w h.kept t.2 none)
 
-  pub fewest : (events : List Event) (p q : Pooled) (v w : WireState) → OpensGiven v → SuitsWire p v → FewFailed p → tries p ≡ 0 → Travels allows events p q v w → q.fault ≡ None → held q ≡ [] → length (asked_in events) ≤ q.started
+  pub fewest : (events : List PoolEvent) (p q : Pooled) (v w : WireState) → OpensGiven v → SuitsWire p v → FewFailed p → tries p ≡ 0 → Travels allows events p q v w → q.fault ≡ None → held q ≡ [] → length (asked_in events) ≤ q.started
   fewest events p q v w g s few z t none held-none =
       let l = least-so events 0 p q v w g s (record { few = few; least = omega (arith, z) }) t none in
       let h : length (held q) ≡ 0 = ap (λ (l : List Ask). length l) held-none in

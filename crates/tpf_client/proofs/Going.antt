@@ -16,7 +16,7 @@ use Rattle.join_core.specs.Evaluations.{Account, Standing, HasHome}
 use Rattle.tpf_client.specs.declared.asks.Arrived.{Arrived}
 use Rattle.tpf_client.specs.declared.fault.ClientFault.{ClientFault}
 use Rattle.tpf_client.specs.declared.fault.ClientFault.TheVariants as faults
-use Rattle.tpf_client.specs.Traffic.{Event, Asked, Came, Broke, Travels, IsLawful, EndsWith}
+use Rattle.tpf_client.specs.Traffic.{PoolEvent, Asked, Came, Broke, Travels, IsLawful, EndsWith}
 use Rattle.tpf_client.specs.Causes.{Explains, Versions, IsTakeFault, IsLocal, shown_as}
 use Rattle.tpf_base.specs.declared.fault.Fault.{Fault}
 use Rattle.tpf_base.specs.declared.fault.Fault.TheVariants as failures
@@ -32,13 +32,13 @@ use Rattle.tpf_client.proofs.Traveling.{no-events, travels-then, travels-allowed
 
 -- ---- causes
 
-ends-later : (event : Event) (first second : List Event) → EndsWith event second → EndsWith event (first ++ second)
+ends-later : (event : PoolEvent) (first second : List PoolEvent) → EndsWith event second → EndsWith event (first ++ second)
 ends-later event first second e = record {
   before = first ++ e.before;
-  is_last = ap (λ (l : List Event). first ++ l) e.is_last ∙ sym (append_assoc first e.before (event ∷ []));
+  is_last = ap (λ (l : List PoolEvent). first ++ l) e.is_last ∙ sym (append_assoc first e.before (event ∷ []));
 }
 
-pub explains-later : (versions : Versions) (budget : ℕ) (fault : ClientFault) (first second : List Event) → Explains versions budget fault second → Explains versions budget fault (first ++ second)
+pub explains-later : (versions : Versions) (budget : ℕ) (fault : ClientFault) (first second : List PoolEvent) → Explains versions budget fault second → Explains versions budget fault (first ++ second)
 explains-later versions budget faults.Exchange first second e = ends-later (Broke pool.Exchange) first second e
 explains-later versions budget faults.Stalled first second e = ends-later (Broke pool.Stalled) first second e
 explains-later versions budget (faults.Cut received) first second e = ends-later (Broke (pool.Cut received)) first second e
@@ -50,10 +50,10 @@ explains-later versions budget (faults.Budget n) first second e = (e.0, ends-lat
 explains-later versions budget faults.Sink first second e = tt
 explains-later versions budget faults.OutOfMemory first second e = tt
 
-at-end : (before : List Event) (event : Event) → EndsWith event (before ++ event ∷ [])
+at-end : (before : List PoolEvent) (event : PoolEvent) → EndsWith event (before ++ event ∷ [])
 at-end before event = record { before = before; is_last = refl }
 
-explains-break : (versions : Versions) (budget : ℕ) (fault : PoolFault) (before : List Event) → Explains versions budget (shown_as budget fault) (before ++ Broke fault ∷ [])
+explains-break : (versions : Versions) (budget : ℕ) (fault : PoolFault) (before : List PoolEvent) → Explains versions budget (shown_as budget fault) (before ++ Broke fault ∷ [])
 explains-break versions budget pool.Exchange before = at-end before (Broke pool.Exchange)
 explains-break versions budget pool.Stalled before = at-end before (Broke pool.Stalled)
 explains-break versions budget (pool.Cut received) before = at-end before (Broke (pool.Cut received))
@@ -61,12 +61,12 @@ explains-break versions budget (pool.Reply fault received) before = at-end befor
 explains-break versions budget pool.Budget before = (refl, at-end before (Broke pool.Budget))
 explains-break versions budget pool.OutOfMemory before = tt
 
-pub explains-stop : (versions : Versions) (budget : ℕ) (shown fault : PoolFault) (before : List Event) → (shown ≡ fault) ⊎ (shown ≡ pool.OutOfMemory) → Explains versions budget (shown_as budget shown) (before ++ Broke fault ∷ [])
+pub explains-stop : (versions : Versions) (budget : ℕ) (shown fault : PoolFault) (before : List PoolEvent) → (shown ≡ fault) ⊎ (shown ≡ pool.OutOfMemory) → Explains versions budget (shown_as budget shown) (before ++ Broke fault ∷ [])
 explains-stop versions budget shown fault before e =
     ⊎_elim (λ (s : shown ≡ fault). subst (λ (f : PoolFault). Explains versions budget (shown_as budget f) (before ++ Broke fault ∷ [])) (sym s) (explains-break versions budget fault before))
     (λ (s : shown ≡ pool.OutOfMemory). subst (λ (f : PoolFault). Explains versions budget (shown_as budget f) (before ++ Broke fault ∷ [])) (sym s) tt) e
 
-pub explains-take : (versions : Versions) (budget : ℕ) (fault : ClientFault) (arrived : Arrived) (before : List Event) → IsTakeFault arrived versions fault → Explains versions budget fault (before ++ Came (ask_of arrived) arrived.reply ∷ [])
+pub explains-take : (versions : Versions) (budget : ℕ) (fault : ClientFault) (arrived : Arrived) (before : List PoolEvent) → IsTakeFault arrived versions fault → Explains versions budget fault (before ++ Came (ask_of arrived) arrived.reply ∷ [])
 explains-take versions budget faults.Exchange arrived before e = absurd e
 explains-take versions budget faults.Stalled arrived before e = absurd e
 explains-take versions budget (faults.Cut received) arrived before e = absurd e
@@ -78,7 +78,7 @@ explains-take versions budget (faults.Budget n) arrived before e = absurd e
 explains-take versions budget faults.Sink arrived before e = absurd e
 explains-take versions budget faults.OutOfMemory arrived before e = tt
 
-pub explains-local : (versions : Versions) (budget : ℕ) (fault : ClientFault) (events : List Event) → IsLocal fault → Explains versions budget fault events
+pub explains-local : (versions : Versions) (budget : ℕ) (fault : ClientFault) (events : List PoolEvent) → IsLocal fault → Explains versions budget fault events
 explains-local versions budget faults.Exchange events e = absurd e
 explains-local versions budget faults.Stalled events e = absurd e
 explains-local versions budget (faults.Cut received) events e = absurd e
@@ -90,7 +90,7 @@ explains-local versions budget faults.Sink events e = tt
 explains-local versions budget faults.OutOfMemory events e = tt
 
 -- by the same versions
-pub explains-as : (f g : Versions) (budget : ℕ) (fault : ClientFault) (events : List Event) → ((address : Address) → f address ≡ g address) → Explains f budget fault events → Explains g budget fault events
+pub explains-as : (f g : Versions) (budget : ℕ) (fault : ClientFault) (events : List PoolEvent) → ((address : Address) → f address ≡ g address) → Explains f budget fault events → Explains g budget fault events
 explains-as f g budget faults.Exchange events same e = e
 explains-as f g budget faults.Stalled events same e = e
 explains-as f g budget (faults.Cut received) events same e = e
@@ -136,10 +136,10 @@ never-sink arrived versions (Err f) h e = no-sink f f refl (λ s. sink-take arri
 
 -- ---- events in which nothing is asked
 
-pub asked-last : (before : List Event) (event : Event) → AreWaits before → asked_in (event ∷ []) ≡ [] → asked_in (before ++ event ∷ []) ≡ []
+pub asked-last : (before : List PoolEvent) (event : PoolEvent) → AreWaits before → asked_in (event ∷ []) ≡ [] → asked_in (before ++ event ∷ []) ≡ []
 asked-last before event w e = asked-append before (event ∷ []) ∙ (ap (λ (l : List Ask). l ++ asked_in (event ∷ [])) (asked-waits before w) ∙ e)
 
-true-last : (is_true : Address → Page → Type 0) (versions : Versions) (before : List Event) (event : Event) → AreTrue is_true versions (before ++ event ∷ []) → IsTrueReply is_true versions event
+true-last : (is_true : Address → Page → Type 0) (versions : Versions) (before : List PoolEvent) (event : PoolEvent) → AreTrue is_true versions (before ++ event ∷ []) → IsTrueReply is_true versions event
 true-last is_true versions before event h = (true-second is_true versions before (event ∷ []) h).0
 
 module _ {Source Eval : Type 0} (suits : Source → Eval → Type 0) (account : Source → Eval → Account) (keeps : Limits → Eval → Type 0) (standing : Eval → Standing) (is_true : Source → Address → Page → Type 0) (versions : Versions) where
@@ -217,7 +217,7 @@ module _ {Source Eval : Type 0} (suits : Source → Eval → Type 0) (account : 
 
   -- so it is where a call took it
   pub went-taken : (r : Result (Unit {0}) ClientFault) (allows : List ℕ → ℕ → List ℕ → List ℕ → Type 0) (a b : Eval) (arrived : Arrived) (p q : Pooled) (v w : WireState) → Arrives allows arrived p q v w
-      → OnOk r (TakesReply suits account keeps standing is_true a b arrived versions) → OnOk r ((events : List Event) × Went suits account keeps standing is_true allows a b versions events [] p q v w)
+      → OnOk r (TakesReply suits account keeps standing is_true a b arrived versions) → OnOk r ((events : List PoolEvent) × Went suits account keeps standing is_true allows a b versions events [] p q v w)
   went-taken (Ok u) allows a b arrived p q v w h t = (h.before ++ Came (ask_of arrived) arrived.reply ∷ [], went-reply allows a b arrived p q v w h t)
   went-taken (Err fault) allows a b arrived p q v w h t = tt
 
@@ -225,7 +225,7 @@ module _ {Source Eval : Type 0} (suits : Source → Eval → Type 0) (account : 
   given-taken (Ok u) a b arrived t = t.ends.given
   given-taken (Err fault) a b arrived t = tt
 
-  pub went-then : (allows later : List ℕ → ℕ → List ℕ → List ℕ → Type 0) (a b c : Eval) (first second : List Event) (rows more : List Places) (p q r : Pooled) (u v w : WireState) → SameAllowed allows later
+  pub went-then : (allows later : List ℕ → ℕ → List ℕ → List ℕ → Type 0) (a b c : Eval) (first second : List PoolEvent) (rows more : List Places) (p q r : Pooled) (u v w : WireState) → SameAllowed allows later
       → Went suits account keeps standing is_true allows a b versions first rows p q u v → Went suits account keeps standing is_true later b c versions second more q r v w
       → Went suits account keeps standing is_true allows a c versions (first ++ second) (rows ++ more) p r u w
   went-then allows later a b c first second rows more p q r u v w same f s = record {
@@ -249,7 +249,7 @@ module _ {Source Eval : Type 0} (suits : Source → Eval → Type 0) (account : 
   -- ---- faults
 
   -- a fault that needs nothing more than what went before
-  pub failed-here : (allows : List ℕ → ℕ → List ℕ → List ℕ → Type 0) (a b : Eval) (budget : ℕ) (fault : ClientFault) (events : List Event) (rows : List Places) (p q : Pooled) (v w : WireState) → Explains versions budget fault events
+  pub failed-here : (allows : List ℕ → ℕ → List ℕ → List ℕ → Type 0) (a b : Eval) (budget : ℕ) (fault : ClientFault) (events : List PoolEvent) (rows : List Places) (p q : Pooled) (v w : WireState) → Explains versions budget fault events
       → Went suits account keeps standing is_true allows a b versions events rows p q v w → Failed suits account keeps standing is_true allows a versions budget fault events rows p q v w
   failed-here allows a b budget fault events rows p q v w e g = record {
     travels = g.travels;
@@ -261,7 +261,7 @@ module _ {Source Eval : Type 0} (suits : Source → Eval → Type 0) (account : 
   }
 
   -- a fault in events in which nothing was asked and given
-  failed-events : (allows : List ℕ → ℕ → List ℕ → List ℕ → Type 0) (a : Eval) (budget : ℕ) (fault : ClientFault) (events : List Event) (p q : Pooled) (v w : WireState) → Travels allows events p q v w → SuitsWire q w → Explains versions budget fault events → asked_in events ≡ []
+  failed-events : (allows : List ℕ → ℕ → List ℕ → List ℕ → Type 0) (a : Eval) (budget : ℕ) (fault : ClientFault) (events : List PoolEvent) (p q : Pooled) (v w : WireState) → Travels allows events p q v w → SuitsWire q w → Explains versions budget fault events → asked_in events ≡ []
       → Failed suits account keeps standing is_true allows a versions budget fault events [] p q v w
   failed-events allows a budget fault events p q v w t s e none = record {
     travels = t;
@@ -292,11 +292,11 @@ module _ {Source Eval : Type 0} (suits : Source → Eval → Type 0) (account : 
       failed-events allows a budget fault (h.before ++ Came (ask_of arrived) arrived.reply ∷ []) p q v w h.travels h.suits (explains-take versions budget fault arrived h.before e) (asked-last h.before (Came (ask_of arrived) arrived.reply) h.waits refl)
 
   pub failed-taken : (r : Result (Unit {0}) ClientFault) (allows : List ℕ → ℕ → List ℕ → List ℕ → Type 0) (a : Eval) (budget : ℕ) (arrived : Arrived) (p q : Pooled) (v w : WireState) → Arrives allows arrived p q v w → IfErr r (IsTakeFault arrived versions)
-      → IfErr r (λ fault. (events : List Event) × Failed suits account keeps standing is_true allows a versions budget fault events [] p q v w)
+      → IfErr r (λ fault. (events : List PoolEvent) × Failed suits account keeps standing is_true allows a versions budget fault events [] p q v w)
   failed-taken (Ok u) allows a budget arrived p q v w h e = tt
   failed-taken (Err fault) allows a budget arrived p q v w h e = (h.before ++ Came (ask_of arrived) arrived.reply ∷ [], failed-take allows a budget fault arrived p q v w h e)
 
-  pub failed-then : (allows later : List ℕ → ℕ → List ℕ → List ℕ → Type 0) (a b : Eval) (budget : ℕ) (fault : ClientFault) (first second : List Event) (rows more : List Places) (p q r : Pooled) (u v w : WireState) → SameAllowed allows later
+  pub failed-then : (allows later : List ℕ → ℕ → List ℕ → List ℕ → Type 0) (a b : Eval) (budget : ℕ) (fault : ClientFault) (first second : List PoolEvent) (rows more : List Places) (p q r : Pooled) (u v w : WireState) → SameAllowed allows later
       → Went suits account keeps standing is_true allows a b versions first rows p q u v → Failed suits account keeps standing is_true later b versions budget fault second more q r v w
       → Failed suits account keeps standing is_true allows a versions budget fault (first ++ second) (rows ++ more) p r u w
   failed-then allows later a b budget fault first second rows more p q r u v w same f s = record {

@@ -19,7 +19,7 @@ use Rattle.join_core.specs.Blocks.{IsBlockSize}
 use Rattle.join_core.specs.Evaluations.{HasHome}
 use Rattle.plan_laws.specs.Servers.{server_world}
 use Rattle.tpf_client.specs.declared.options.Options.{Options}
-use Rattle.tpf_client.specs.Traffic.{Event, Came, IsLawful}
+use Rattle.tpf_client.specs.Traffic.{PoolEvent, Came, IsLawful}
 use Rattle.fragment_page.specs.declared.page.Page.{Page}
 use Rattle.tpf_client.specs.Starts.{start_ask, ReadsStart}
 use Rattle.tpf_client.specs.Sources.{IsSourceOf, world_sources}
@@ -48,20 +48,20 @@ module _ (laws : Laws) (allows : List ℕ → ℕ → List ℕ → List ℕ → 
   abbrev AtHome : Ask → Type 0
   AtHome ask = HasHome (start ∷ []) ask.address
 
-  homes-of : (events : List Event) (pool : Pooled) → RunsPool allows options since now events pool → AsksAt (start ∷ []) events → AllByRecursion (CameFrom AtHome) events
+  homes-of : (events : List PoolEvent) (pool : Pooled) → RunsPool allows options since now events pool → AsksAt (start ∷ []) events → AllByRecursion (CameFrom AtHome) events
   homes-of events pool r asks =
       came-from allows (begun options) AtHome events (begun options) pool since r.between (record { given = lawful.given; suits = record { polled = tt; due = tt; owned = λ k. omega arith }; are = λ none. tt; bounds = refl }) asks r.travels
 
-  pub all-of : (events : List Event) (pool : Pooled) → RunsPool allows options since now events pool → AsksAt (start ∷ []) events → AllByRecursion (IsAnswer history config served) events
+  pub all-of : (events : List PoolEvent) (pool : Pooled) → RunsPool allows options since now events pool → AsksAt (start ∷ []) events → AllByRecursion (IsAnswer history config served) events
   all-of events pool r asks =
       all-answers allows start history config served honest.is_honest events
       (any-answers allows laws.puts laws.steps laws.faults (replies-answer laws allows) events (empty_pool options.links options.retries options.budget options.max_body) pool since r.between begins-so r.travels)
       (homes-of events pool r asks)
 
-  abbrev StartIsServed : (first : List Event) (page : Page) → ReadsStart start page first → ℕ → Type 0
+  abbrev StartIsServed : (first : List PoolEvent) (page : Page) → ReadsStart start page first → ℕ → Type 0
   StartIsServed first page reads version = IsServedStart laws.given laws.answered laws.only laws.worlds laws.forms laws.pages laws.kept laws.addresses history config honest.is_history honest.is_config start page version
 
-  served-of : (first later : List Event) (pool : Pooled) (version : ℕ) → RunsPool allows options since now (first ++ later) pool → AsksAt (start ∷ []) (first ++ later) → (page : Page) (reads : ReadsStart start page first) → page.version ≡ Some version → StartIsServed first page reads version
+  served-of : (first later : List PoolEvent) (pool : Pooled) (version : ℕ) → RunsPool allows options since now (first ++ later) pool → AsksAt (start ∷ []) (first ++ later) → (page : Page) (reads : ReadsStart start page first) → page.version ≡ Some version → StartIsServed first page reads version
   served-of first later pool version r asks page reads told =
       let all = all-of (first ++ later) pool r asks in
       let b : IsBodyOver history config served start reads.reply.body = at-last (IsAnswer history config served) (Came (start_ask start) reads.reply) first reads.last (all_front (IsAnswer history config served) first later all) in
@@ -71,7 +71,7 @@ module _ (laws : Laws) (allows : List ℕ → ℕ → List ℕ → List ℕ → 
   same-port m n h g e f = ap (λ (x : List ℕ). authority_text x m) e ∙ ap (λ (k : ℕ). authority_text g k) f
 
   -- the version of the start page has the whole plan to ask for
-  pub start-is-served : (first later : List Event) (pool : Pooled) (version : ℕ) → RunsPool allows options since now (first ++ later) pool → AsksAt (start ∷ []) (first ++ later) → (page : Page) (reads : ReadsStart start page first) → page.version ≡ Some version
+  pub start-is-served : (first later : List PoolEvent) (pool : Pooled) (version : ℕ) → RunsPool allows options since now (first ++ later) pool → AsksAt (start ∷ []) (first ++ later) → (page : Page) (reads : ReadsStart start page first) → page.version ≡ Some version
       → (is_answered history (Served version) config start && bytes_eq (authority_of start) (authority_of config.base)) ≡ true
   start-is-served first later pool version r asks page reads told =
       let s = served-of first later pool version r asks page reads told in
@@ -82,7 +82,7 @@ module _ (laws : Laws) (allows : List ℕ → ℕ → List ℕ → List ℕ → 
       and_from (is_answered history (Served version) config start) (bytes_eq (authority_of start) (authority_of config.base)) s.is_given same
 
   -- the world of the start page
-  pub world-of : (first later : List Event) (pool : Pooled) → RunsPool allows options since now (first ++ later) pool → AsksAt (start ∷ []) (first ++ later) → (page : Page) (reads : ReadsStart start page first)
+  pub world-of : (first later : List PoolEvent) (pool : Pooled) → RunsPool allows options since now (first ++ later) pool → AsksAt (start ∷ []) (first ++ later) → (page : Page) (reads : ReadsStart start page first)
       → (version : ℕ) × IsVersionOf history version × (served version ≡ true) × (page.version ≡ Some version) × IsSourceOf (world_sources block) (server_world block (version_of history version) config) (page.form ∷ []) (λ address. page.version) later
   world-of first later pool r asks page reads =
       let all = all-of (first ++ later) pool r asks in

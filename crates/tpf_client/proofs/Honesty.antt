@@ -7,7 +7,6 @@ use Rattle.list_laws.proofs.Members.{at_head, one_of}
 use Rattle.rdf_terms.specs.declared.term.Triple.{Triple}
 use Rattle.tpf_base.specs.Addresses.{Address, address_text}
 use Rattle.tpf_base.specs.Links.{All, WireState, OpensGiven}
-use Rattle.tpf_base.specs.Marks.{Mark}
 use Rattle.http_wire.specs.declared.message.Reply.{Reply}
 use Rattle.template_fill.specs.Metadata.{Config}
 use Rattle.template_fill.specs.Authorities.{ShareAuthority}
@@ -19,8 +18,9 @@ use Rattle.request_pool.specs.Pools.{Pooled, Ask, held}
 use Rattle.request_pool.specs.Owned.{SuitsWire}
 use Rattle.pool_laws.specs.Following.{AnswersSoFar, PutsFollow, StepsFollow, FaultsFollow}
 use Rattle.pool_laws.specs.Answers.{TellsAll, IsHonestOver, IsBodyOf, IsBodyOver, Brings, RepliesAreAnswers}
+use Rattle.pool_laws.proofs.Answers.{over_any}
 use Rattle.join_core.specs.Evaluations.{HasHome}
-use Rattle.tpf_client.specs.Traffic.{Event, Asked, Came, Waited, Broke, Moves, Travels, AreDistinct, without_fault, Puts, Comes, StepWaits, StepBreaks}
+use Rattle.tpf_client.specs.Traffic.{PoolEvent, Asked, Came, Waited, Broke, Moves, Travels, AreDistinct, without_fault, Puts, Comes, StepWaits, StepBreaks}
 use Rattle.tpf_client.specs.Honest.{IsHonestWire}
 use Rattle.tpf_client.proofs.Came.{CameFrom}
 use Rattle.tpf_client.proofs.Distinct.{one-ask}
@@ -28,16 +28,7 @@ use Rattle.tpf_client.proofs.Onward.{onward_step, onward_same, Onward}
 
 -- ---- honest at one host and port
 
-all-served : (marks : List Mark) → AllByRecursion (λ mark. true ≡ true) marks
-all-served [] = tt
-all-served (mark ∷ marks) = (refl, all-served marks)
-
--- where any version may be served, and where some are
-pub over-any : (allows : List ℕ → ℕ → List ℕ → List ℕ → Type 0) (host : List ℕ) (port : ℕ) (history : List (List Triple)) (config : Config) → IsHonestAt allows host port (answering history config) → IsHonestOver allows host port history config (λ version. true)
-over-any allows host port history config honest = λ sent owed may.
-    let o = honest sent owed may in
-    record { marks = o.0; marked = o.1.0; are_served = all-served o.0; owed_is = o.1.1 }
-
+-- what is owed over some versions is owed over any
 pub any-over : (allows : List ℕ → ℕ → List ℕ → List ℕ → Type 0) (host : List ℕ) (port : ℕ) (history : List (List Triple)) (config : Config) (served : ℕ → Bool) → IsHonestOver allows host port history config served → IsHonestAt allows host port (answering history config)
 any-over allows host port history config served honest = λ sent owed may.
     let o = honest sent owed may in
@@ -69,7 +60,7 @@ serves-any allows start history config wire honest = record {
   is_history = honest.is_history;
   is_config = honest.is_config;
   few = λ version is. honest.few version;
-  is_honest = over-any allows start.host start.port history config honest.is_honest;
+  is_honest = over_any allows start.host start.port history config honest.is_honest;
 }
 
 -- ---- the replies
@@ -79,14 +70,14 @@ pub record IsAnswerOfAny (allows : List ℕ → ℕ → List ℕ → List ℕ �
   pub body : (history : List (List Triple)) (config : Config) → IsHonestAt allows ask.address.host ask.address.port (answering history config) → IsBodyOf history config ask.address reply.body
   pub over : (history : List (List Triple)) (config : Config) (served : ℕ → Bool) → IsHonestOver allows ask.address.host ask.address.port history config served → IsBodyOver history config served ask.address reply.body
 
-abbrev pub IsAnyAnswer : (List ℕ → ℕ → List ℕ → List ℕ → Type 0) → Event → Type 0
+abbrev pub IsAnyAnswer : (List ℕ → ℕ → List ℕ → List ℕ → Type 0) → PoolEvent → Type 0
 IsAnyAnswer allows (Asked ask) = Unit {0}
 IsAnyAnswer allows (Came ask reply) = IsAnswerOfAny allows ask reply
 IsAnyAnswer allows Waited = Unit {0}
 IsAnyAnswer allows (Broke fault) = Unit {0}
 
 -- a reply is the body of the server's answer to the request for its address, over a version that is served
-abbrev pub IsAnswer : List (List Triple) → Config → (ℕ → Bool) → Event → Type 0
+abbrev pub IsAnswer : List (List Triple) → Config → (ℕ → Bool) → PoolEvent → Type 0
 IsAnswer history config served (Asked ask) = Unit {0}
 IsAnswer history config served (Came ask reply) = IsBodyOver history config served ask.address reply.body
 IsAnswer history config served Waited = Unit {0}
@@ -106,14 +97,14 @@ module _ (allows : List ℕ → ℕ → List ℕ → List ℕ → Type 0) (puts 
   after-put ask p q v w h e a =
       subst (λ (x : WireState). AnswersSoFar q x) (sym e) (subst (λ (x : Pooled). AnswersSoFar x v) (sym h.put) (puts ask.ticket ask.address p v (address_text ask.address, h.is_address) a))
 
-  goes : (event : Event) (p q : Pooled) (v w : WireState) → Keeps p v → Moves allows event p q v w → AnswersSoFar q w × Onward v w
+  goes : (event : PoolEvent) (p q : Pooled) (v w : WireState) → Keeps p v → Moves allows event p q v w → AnswersSoFar q w × Onward v w
   goes (Asked ask) p q v w k m = (after-put ask p q v w m.happens.0 m.happens.1 k.answers, onward_same v w m.happens.1)
   goes (Came ask reply) p q v w k m = let h : Comes ask reply p q v w = m.happens in (steps (Ok (stepped.Came ask.ticket ask.address reply)) p q v w k.given k.suits k.answers h.steps, onward_step (Ok (stepped.Came ask.ticket ask.address reply)) p q v w h.steps)
   goes Waited p q v w k m = let h : StepWaits p q v w = m.happens in (steps (Ok stepped.Waited) p q v w k.given k.suits k.answers h.steps, onward_step (Ok stepped.Waited) p q v w h.steps)
   goes (Broke fault) p q v w k m = let h : StepBreaks fault p q v w = m.happens in
       (faults q w (steps (Err fault) p (without_fault q) v w k.given k.suits k.answers h.steps), onward_step (Err fault) p (without_fault q) v w h.steps)
 
-  keeps-on : (event : Event) (p q : Pooled) (v w : WireState) → Keeps p v → Moves allows event p q v w → Keeps q w
+  keeps-on : (event : PoolEvent) (p q : Pooled) (v w : WireState) → Keeps p v → Moves allows event p q v w → Keeps q w
   keeps-on event p q v w k m =
       let g = goes event p q v w k m in
       let same : q.limit ≡ p.limit = ap (λ (x : Pooled). x.limit) m.bounds in
@@ -146,24 +137,24 @@ module _ (allows : List ℕ → ℕ → List ℕ → List ℕ → Type 0) (puts 
               (b.over history config served (subst (λ (a : Ask). IsHonestOver allows a.address.host a.address.port history config served) (sym same) honest));
         }
 
-    any-answer : (event : Event) (p q : Pooled) (v w : WireState) → Keeps p v → Moves allows event p q v w → IsAnyAnswer allows event
+    any-answer : (event : PoolEvent) (p q : Pooled) (v w : WireState) → Keeps p v → Moves allows event p q v w → IsAnyAnswer allows event
     any-answer (Asked ask) p q v w k m = tt
     any-answer (Came ask reply) p q v w k m = answer-of-any ask reply p q v w k m
     any-answer Waited p q v w k m = tt
     any-answer (Broke fault) p q v w k m = tt
 
-    pub any-answers : (events : List Event) (p q : Pooled) (v w : WireState) → Keeps p v → Travels allows events p q v w → AllByRecursion (IsAnyAnswer allows) events
+    pub any-answers : (events : List PoolEvent) (p q : Pooled) (v w : WireState) → Keeps p v → Travels allows events p q v w → AllByRecursion (IsAnyAnswer allows) events
     any-answers [] p q v w k t = tt
     any-answers (event ∷ events) p q v w k t = (any-answer event p t.0.pool v t.0.wire k t.1, any-answers events t.0.pool q t.0.wire w (keeps-on event p t.0.pool v t.0.wire k t.1) t.2)
 
 -- where one server answers at the start that all have the authority of
 module _ (allows : List ℕ → ℕ → List ℕ → List ℕ → Type 0) (start : Address) (history : List (List Triple)) (config : Config) (served : ℕ → Bool) (honest : IsHonestOver allows start.host start.port history config served) where
-  is-answer : (event : Event) → IsAnyAnswer allows event → CameFrom (λ ask. HasHome (start ∷ []) ask.address) event → IsAnswer history config served event
+  is-answer : (event : PoolEvent) → IsAnyAnswer allows event → CameFrom (λ ask. HasHome (start ∷ []) ask.address) event → IsAnswer history config served event
   is-answer (Asked ask) a own = tt
   is-answer (Came ask reply) a own = a.over history config served (over-share allows history config served start ask.address (one-home start ask.address own) honest)
   is-answer Waited a own = tt
   is-answer (Broke fault) a own = tt
 
-  pub all-answers : (events : List Event) → AllByRecursion (IsAnyAnswer allows) events → AllByRecursion (CameFrom (λ ask. HasHome (start ∷ []) ask.address)) events → AllByRecursion (IsAnswer history config served) events
+  pub all-answers : (events : List PoolEvent) → AllByRecursion (IsAnyAnswer allows) events → AllByRecursion (CameFrom (λ ask. HasHome (start ∷ []) ask.address)) events → AllByRecursion (IsAnswer history config served) events
   all-answers [] a own = tt
   all-answers (event ∷ events) a own = (is-answer event a.0 own.0, all-answers events a.1 own.1)

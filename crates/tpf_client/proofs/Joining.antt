@@ -15,7 +15,7 @@ use Rattle.request_pool.specs.Pools.{Pooled, Ask, held}
 use Rattle.join_core.specs.Evaluations.{Account, Standing, Terms, Sizes, HasHome, nothing}
 use Rattle.join_core.specs.Beginnings.{BeginsWith}
 use Rattle.tpf_client.specs.declared.fault.ClientFault.{ClientFault}
-use Rattle.tpf_client.specs.Traffic.{Event, is_under, AreDistinct}
+use Rattle.tpf_client.specs.Traffic.{PoolEvent, is_under, AreDistinct}
 use Rattle.tpf_client.specs.Causes.{Versions}
 use Rattle.tpf_client.specs.Turns.{Limits, keeps_both, most_waiting, Meets, IsOut, Went, Failed, address_of, asked_in, is_number, is_pair}
 use Rattle.tpf_client.specs.Sources.{Sources, sources_of}
@@ -79,7 +79,7 @@ module _ {Source Eval : Type 0} (suits : Source → Eval → Type 0) (account : 
   begun-so = begins-meets limits (keeps_both keeps_to keeps_small limits e) (standing e) old (begun.keeps, begun.small) begun.none_out none no_fault
 
   pub joins-of : ((source : Source) (x : Eval) → suits source x → (standing x).done ≡ true → account source x ≡ nothing) → ((x : Eval) → (standing x).done ≡ true → ((standing x).out ≡ []) × ((standing x).waiting ≡ 0))
-      → (k : Eval) (events : List Event) (given : List Places) → (standing k).done ≡ true → Went suits account (keeps_both keeps_to keeps_small) standing is_true allows e k versions events given old new wire wire' → Joins allows (length q.patterns * (window * length forms)) from q starts forms versions events given old new wire wire'
+      → (k : Eval) (events : List PoolEvent) (given : List Places) → (standing k).done ≡ true → Went suits account (keeps_both keeps_to keeps_small) standing is_true allows e k versions events given old new wire wire' → Joins allows (length q.patterns * (window * length forms)) from q starts forms versions events given old new wire wire'
   joins-of owes_nothing is_quiet k events given done went =
       let m = went.meets limits begun-so in
       record {
@@ -101,7 +101,7 @@ module _ {Source Eval : Type 0} (suits : Source → Eval → Type 0) (account : 
             };
       }
 
-  pub some-of : (budget : ℕ) (fault : ClientFault) (events : List Event) (given : List Places) → Failed suits account (keeps_both keeps_to keeps_small) standing is_true allows e versions budget fault events given old new wire wire' → JoinsSome allows (length q.patterns * (window * length forms)) from q starts forms versions budget fault events given old new wire wire'
+  pub some-of : (budget : ℕ) (fault : ClientFault) (events : List PoolEvent) (given : List Places) → Failed suits account (keeps_both keeps_to keeps_small) standing is_true allows e versions budget fault events given old new wire wire' → JoinsSome allows (length q.patterns * (window * length forms)) from q starts forms versions budget fault events given old new wire wire'
   some-of budget fault events given failed = record {
     travels = failed.travels;
     on_wire = failed.on_wire;

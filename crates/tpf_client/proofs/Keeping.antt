@@ -15,7 +15,7 @@ use Rattle.request_pool.specs.Pools.{Pooled, Ask, held, bounds_of}
 use Rattle.request_pool.specs.Owned.{SuitsWire}
 use Rattle.request_pool.specs.Steps.{StepsTo}
 use Rattle.pool_laws.specs.Following.{IsWebAddress}
-use Rattle.tpf_client.specs.Traffic.{Event, Asked, Came, Waited, Broke, Moves, Travels, IsLawful, without_fault, Comes, StepWaits, StepBreaks}
+use Rattle.tpf_client.specs.Traffic.{PoolEvent, Asked, Came, Waited, Broke, Moves, Travels, IsLawful, without_fault, Comes, StepWaits, StepBreaks}
 use Rattle.tpf_client.specs.Turns.{asked_in}
 use Rattle.tpf_client.proofs.Distinct.{put-held}
 
@@ -61,7 +61,7 @@ module _ (allows : List ℕ → ℕ → List ℕ → List ℕ → Type 0) (base 
 
   -- ---- one event
 
-  are-next : (event : Event) (p q : Pooled) (v w : WireState) → AllByRecursion P (asked_in (event ∷ [])) → Between p v → Moves allows event p q v w → q.fault ≡ None → AllByRecursion P (held q)
+  are-next : (event : PoolEvent) (p q : Pooled) (v w : WireState) → AllByRecursion P (asked_in (event ∷ [])) → Between p v → Moves allows event p q v w → q.fault ≡ None → AllByRecursion P (held q)
   are-next (Asked ask) p q v w a b m none =
       let h = m.happens.0 in
       let had : p.fault ≡ None = sym (ap (λ (x : Pooled). x.fault) h.put) ∙ none in
@@ -70,10 +70,10 @@ module _ (allows : List ℕ → ℕ → List ℕ → List ℕ → Type 0) (base 
   are-next Waited p q v w a b m none = let h : StepWaits p q v w = m.happens in all-permuted P (held p) (held q) h.others (b.are h.had_none)
   are-next (Broke fault) p q v w a b m none = let h : StepBreaks fault p q v w = m.happens in absurd (not-some q.fault (kept_of fault) h.kept none)
 
-  next : (event : Event) (p q : Pooled) (v w : WireState) → AllByRecursion P (asked_in (event ∷ [])) → Between p v → Moves allows event p q v w → Between q w
+  next : (event : PoolEvent) (p q : Pooled) (v w : WireState) → AllByRecursion P (asked_in (event ∷ [])) → Between p v → Moves allows event p q v w → Between q w
   next event p q v w a b m = record { given = m.lawful.given; suits = m.suits; are = λ none. are-next event p q v w a b m none; bounds = m.bounds ∙ b.bounds }
 
-  pub taken : (event : Event) (p q : Pooled) (v w : WireState) → held p ≢ [] → p.fault ≡ None → Between p v → Moves allows event p q v w → Taken p q v w
+  pub taken : (event : PoolEvent) (p q : Pooled) (v w : WireState) → held p ≢ [] → p.fault ≡ None → Between p v → Moves allows event p q v w → Taken p q v w
   taken event p q v w some had b m = record {
     given = b.given;
     suits = b.suits;
@@ -87,7 +87,7 @@ module _ (allows : List ℕ → ℕ → List ℕ → List ℕ → Type 0) (base 
 
   -- ---- one event after another
 
-  pub between-after : (events : List Event) (p q : Pooled) (v w : WireState) → AllByRecursion P (asked_in events) → Between p v → Travels allows events p q v w → Between q w
+  pub between-after : (events : List PoolEvent) (p q : Pooled) (v w : WireState) → AllByRecursion P (asked_in events) → Between p v → Travels allows events p q v w → Between q w
   between-after [] p q v w a b t = subst (λ (x : Pooled). Between x w) (sym t.0) (subst (λ (y : WireState). Between p y) (sym t.1) b)
   between-after (Asked ask ∷ events) p q v w a b t = between-after events t.0.pool q t.0.wire w a.1 (next (Asked ask) p t.0.pool v t.0.wire (a.0, tt) b t.1) t.2
   between-after (Came ask reply ∷ events) p q v w a b t = between-after events t.0.pool q t.0.wire w a (next (Came ask reply) p t.0.pool v t.0.wire tt b t.1) t.2
@@ -95,7 +95,7 @@ module _ (allows : List ℕ → ℕ → List ℕ → List ℕ → Type 0) (base 
   between-after (Broke fault ∷ events) p q v w a b t = between-after events t.0.pool q t.0.wire w a (next (Broke fault) p t.0.pool v t.0.wire tt b t.1) t.2
 
   module _ (I : List Ask → Pooled → WireState → Type 0) (k : IsKeptWith I) where
-    by-asks : (events : List Event) (asks : List Ask) (p q : Pooled) (v w : WireState) → Between p v → AllByRecursion P (asked_in events) → I asks p v → Travels allows events p q v w → I (asks ++ asked_in events) q w
+    by-asks : (events : List PoolEvent) (asks : List Ask) (p q : Pooled) (v w : WireState) → Between p v → AllByRecursion P (asked_in events) → I asks p v → Travels allows events p q v w → I (asks ++ asked_in events) q w
     by-asks [] asks p q v w b a i t =
         subst (λ (l : List Ask). I l q w) (sym (append-nil asks)) (subst (λ (x : Pooled). I asks x w) (sym t.0) (subst (λ (y : WireState). I asks p y) (sym t.1) i))
     by-asks (Asked ask ∷ events) asks p q v w b a i t =
@@ -117,7 +117,7 @@ module _ (allows : List ℕ → ℕ → List ℕ → List ℕ → Type 0) (base 
         by-asks events asks t.0.pool q t.0.wire w (next (Broke fault) p t.0.pool v t.0.wire tt b t.1) a (k.breaks asks fault p t.0.pool v t.0.wire at i h.steps h.kept) t.2
 
     -- from a pool of which nothing was asked
-    pub with-asks : (events : List Event) (p q : Pooled) (v w : WireState) → Between p v → AllByRecursion P (asked_in events) → I [] p v → Travels allows events p q v w → I (asked_in events) q w
+    pub with-asks : (events : List PoolEvent) (p q : Pooled) (v w : WireState) → Between p v → AllByRecursion P (asked_in events) → I [] p v → Travels allows events p q v w → I (asked_in events) q w
     with-asks events p q v w b a i t = by-asks events [] p q v w b a i t
 
   one-more : (asks : List Ask) (ask : Ask) → length asks + 1 ≡ length (asks ++ ask ∷ [])
@@ -131,5 +131,5 @@ module _ (allows : List ℕ → ℕ → List ℕ → List ℕ → Type 0) (base 
       breaks = λ asks fault p q v w at i t kept. k.breaks (length asks) fault p q v w at i t kept;
     }
 
-    pub by-events : (events : List Event) (p q : Pooled) (v w : WireState) → Between p v → AllByRecursion P (asked_in events) → I 0 p v → Travels allows events p q v w → I (length (asked_in events)) q w
+    pub by-events : (events : List PoolEvent) (p q : Pooled) (v w : WireState) → Between p v → AllByRecursion P (asked_in events) → I 0 p v → Travels allows events p q v w → I (length (asked_in events)) q w
     by-events events p q v w b a i t = with-asks (λ asks x y. I (length asks) x y) numbered events p q v w b a i t

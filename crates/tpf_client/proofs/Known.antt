@@ -16,7 +16,7 @@ use Rattle.pool_laws.specs.Counting.{FewDials, FewFailed}
 use Rattle.pool_laws.proofs.Dialling.{Linked, linked_is_kept}
 use Rattle.pool_laws.proofs.KeptBySteps.{by_step}
 use Rattle.tpf_client.specs.declared.options.Options.{Options}
-use Rattle.tpf_client.specs.Traffic.{Event, Travels, IsLawful, without_fault}
+use Rattle.tpf_client.specs.Traffic.{PoolEvent, Travels, IsLawful, without_fault}
 use Rattle.tpf_client.specs.Turns.{AsksAt, asked_in}
 use Rattle.tpf_client.specs.Calls.{RunsPool}
 use Rattle.tpf_client.specs.Honest.{Laws}
@@ -107,7 +107,7 @@ module _ (laws : Laws) (traffic : TrafficLaws) (homes : List Address) (options :
   begun-between P = record { given = lawful.given; suits = record { polled = tt; due = tt; owned = λ k. omega arith }; are = λ none. tt; bounds = refl }
 
   -- at each moment
-  pub knows-so : (events : List Event) (p : Pooled) (v : WireState) → AsksAt homes events → Travels allows events (begun options) p since v → Knows homes since (options.retries + 1) (length (asked_in events)) p v
+  pub knows-so : (events : List PoolEvent) (p : Pooled) (v : WireState) → AsksAt homes events → Travels allows events (begun options) p since v → Knows homes since (options.retries + 1) (length (asked_in events)) p v
   knows-so events p v a t =
       by-events allows (begun options) (λ ask. HasHome homes ask.address) (Knows homes since (options.retries + 1)) (knows-kept laws traffic homes since (options.retries + 1) (omega arith) allows (begun options)) events (begun options) p since v
       (begun-between (λ ask. HasHome homes ask.address)) a begun-knows t
@@ -115,7 +115,7 @@ module _ (laws : Laws) (traffic : TrafficLaws) (homes : List Address) (options :
   same-budget : (n m b : ℕ) → n ≤ m → m ≡ b → n ≤ b
   same-budget n m b l e = omega (arith, l, e)
 
-  pub exit-of : (now : WireState) (events : List Event) (p : Pooled) → AsksAt homes events → RunsPool allows options since now events p → p.budget ≡ options.budget → Exit homes options since now (length (asked_in events)) p.started
+  pub exit-of : (now : WireState) (events : List PoolEvent) (p : Pooled) → AsksAt homes events → RunsPool allows options since now events p → p.budget ≡ options.budget → Exit homes options since now (length (asked_in events)) p.started
   exit-of now events p a r b =
       let i = knows-so events p r.between a r.travels in
       let c = traffic.closing homes since p (record p { waiting = []; polled = []; due = []; spare = [] }) r.between now i.owns refl r.closes in

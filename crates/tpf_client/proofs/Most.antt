@@ -18,6 +18,7 @@ use Rattle.request_pool.specs.Runs.{Begins, Starts, Overruns, Flies, Starves, Po
 use Rattle.request_pool.specs.Steps.{GivesUp}
 use Rattle.pool_laws.specs.Counting.{tries_waiting, tries_flying}
 use Rattle.pool_laws.proofs.KeptBySteps.{IsKept}
+use Rattle.pool_laws.proofs.Trying.{tries_append}
 
 -- the tries that these may have
 abbrev pub room_waiting : ℕ → List Waiting → ℕ
@@ -31,10 +32,6 @@ room_flying k (f ∷ fs) = k + room_flying k fs
 room-append : (k : ℕ) (xs ys : List Flight) → room_flying k (xs ++ ys) ≡ room_flying k xs + room_flying k ys
 room-append k [] ys = omega arith
 room-append k (x ∷ xs) ys = omega (arith, room-append k xs ys)
-
-tries-append : (xs ys : List Flight) → tries_flying (xs ++ ys) ≡ tries_flying xs + tries_flying ys
-tries-append [] ys = omega arith
-tries-append (x ∷ xs) ys = omega (arith, tries-append xs ys)
 
 waiting-append : (xs ys : List Waiting) → tries_waiting (xs ++ ys) ≡ tries_waiting xs + tries_waiting ys
 waiting-append [] ys = omega arith
@@ -98,7 +95,7 @@ module _ (k most : ℕ) where
         waiting = h.waiting;
         polled = all_append (λ (x : Flight). x.failed < k) p.polled (g ∷ []) h.polled (h.failed, tt);
         due = h.due;
-        few = omega (arith, h.few, room-append k p.polled (g ∷ []), tries-append p.polled (g ∷ []));
+        few = omega (arith, h.few, room-append k p.polled (g ∷ []), tries_append p.polled (g ∷ []));
       })
   flight_most (Ok (polls.Came ticket address answer)) f p q a b h t = settle_most (left_link t.1.now) t.1.now.address p q t.0 b t.3 (lost f p p refl h)
   flight_most (Ok polls.Failed) f p q a b h t = waits_again f (record f { exchange = t.1.now }) p q refl t.3 t.4 h
@@ -140,7 +137,7 @@ module _ (k most : ℕ) where
   gives_up_most fault result p q a b h u =
       let all = subst (λ (l : List Flight). AllByRecursion (λ x. x.failed < k) l) u.is_oldest (all_append (λ (x : Flight). x.failed < k) p.polled p.due h.polled h.due) in
       let r : room_flying k p.polled + room_flying k p.due ≡ k + room_flying k u.rest = sym (room-append k p.polled p.due) ∙ ap (room_flying k) u.is_oldest in
-      let t : tries_flying p.polled + tries_flying p.due ≡ u.f.failed + 1 + tries_flying u.rest = sym (tries-append p.polled p.due) ∙ ap tries_flying u.is_oldest in
+      let t : tries_flying p.polled + tries_flying p.due ≡ u.f.failed + 1 + tries_flying u.rest = sym (tries_append p.polled p.due) ∙ ap tries_flying u.is_oldest in
       fails_most fault result u.f (record p { polled = u.rest; due = [] }) q u.to (record { is = h.is; failed = all.0; waiting = h.waiting; polled = all.1; due = tt; few = omega (arith, h.few, r, t) })
 
   pub most_is_kept : IsKept (λ p a. Most k most p)
@@ -152,14 +149,14 @@ module _ (k most : ℕ) where
       waiting = h.waiting;
       polled = tt;
       due = all_append (λ (x : Flight). x.failed < k) p.polled p.due h.polled h.due;
-      few = omega (arith, h.few, room-append k p.polled p.due, tries-append p.polled p.due);
+      few = omega (arith, h.few, room-append k p.polled p.due, tries_append p.polled p.due);
     };
     gathers = λ p a h. record {
       is = h.is;
       waiting = h.waiting;
       polled = all_append (λ (x : Flight). x.failed < k) p.polled p.due h.polled h.due;
       due = tt;
-      few = omega (arith, h.few, room-append k p.polled p.due, tries-append p.polled p.due);
+      few = omega (arith, h.few, room-append k p.polled p.due, tries_append p.polled p.due);
     };
     waits = λ answer p a b s h w. h;
     gives_up = λ fault result p q a b s h u. gives_up_most fault result p q a b h u;

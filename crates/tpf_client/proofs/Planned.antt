@@ -17,7 +17,7 @@ use Rattle.join_core.specs.Evaluations.{HasHome}
 use Rattle.tpf_client.specs.declared.options.Options.{Options}
 use Rattle.tpf_client.specs.declared.options.Report.{Report}
 use Rattle.tpf_client.specs.declared.fault.ClientFault.{ClientFault}
-use Rattle.tpf_client.specs.Traffic.{Event, IsLawful}
+use Rattle.tpf_client.specs.Traffic.{PoolEvent, IsLawful}
 use Rattle.tpf_client.specs.Causes.{Explains, Versions}
 use Rattle.tpf_client.specs.Told.{told_at}
 use Rattle.tpf_client.specs.Sources.{Sources}
@@ -46,11 +46,11 @@ pub record Finished (report : Report) (pool : Pooled) : Type 0 where
 
 module _ (allows : List ℕ → ℕ → List ℕ → List ℕ → Type 0) (options : Options) (since now : WireState) (starts : List Address) (h : Happened allows options starts since now) where
   -- what is said of these events is said of what happened
-  abbrev pub Theirs : List Event → Pooled → Type 0
+  abbrev pub Theirs : List PoolEvent → Pooled → Type 0
   Theirs events pool = AreThese h.events h.pool events pool
 
-  pub these-run : (events : List Event) (pool : Pooled) → Theirs events pool → RunsPool allows options since now events pool
-  these-run events pool is = subst (λ (l : List Event). RunsPool allows options since now l pool) (sym is.events_are) (subst (λ (p : Pooled). RunsPool allows options since now h.events p) (sym is.pool_is) h.runs)
+  pub these-run : (events : List PoolEvent) (pool : Pooled) → Theirs events pool → RunsPool allows options since now events pool
+  these-run events pool is = subst (λ (l : List PoolEvent). RunsPool allows options since now l pool) (sym is.events_are) (subst (λ (p : Pooled). RunsPool allows options since now h.events p) (sym is.pool_is) h.runs)
 
   pub finished : (sources : Sources) (q : QueryData) (report : Report) (rows : List Places) → Returns Theirs sources q starts report rows → Finished report h.pool
   finished sources q report rows r = record {
@@ -107,7 +107,7 @@ module _ (offer : Offer) where
 
   module _ (q : QueryData) (starts : List Address) where
     -- the first of the starts, or nothing
-    alone-plan : (choice : offer.Choice) (s : BeginsWith offer starts choice) (events : List Event) → AsksStarts starts events → OfPlan (asked_in events) choice
+    alone-plan : (choice : offer.Choice) (s : BeginsWith offer starts choice) (events : List PoolEvent) → AsksStarts starts events → OfPlan (asked_in events) choice
     alone-plan choice s events a =
         let same : map address_of (asked_in events) ++ (a.later ++ s.rest) ≡ offer.addresses choice =
         ap (λ (l : List Ask). map address_of l ++ (a.later ++ s.rest)) a.asked
@@ -121,7 +121,7 @@ module _ (offer : Offer) where
 
     module _ (sources : Sources) where
       -- the starts, and these behind them
-      behind-plan : (first later : List Event) (told : List Page) (reads : ReadsStarts starts told first) (c : ChoiceBehind sources offer q starts first later told reads) (rest : List Address) → IsPermutation (sources.plan c.source q) (map address_of (asked_in later) ++ rest)
+      behind-plan : (first later : List PoolEvent) (told : List Page) (reads : ReadsStarts starts told first) (c : ChoiceBehind sources offer q starts first later told reads) (rest : List Address) → IsPermutation (sources.plan c.source q) (map address_of (asked_in later) ++ rest)
           → OfPlan (asked_in (first ++ later)) c.choice
       behind-plan first later told reads c rest p =
           let asks : asked_in (first ++ later) ≡ map start_ask starts ++ asked_in later = asked-append first later ∙ ap (λ (l : List Ask). l ++ asked_in later) (asked-starts starts told first reads) in
@@ -135,7 +135,7 @@ module _ (offer : Offer) where
                 (subst (λ (l : List Address). IsPermutation (starts ++ sources.plan c.source q) l) (sym whole) (IsPermutation-append_right starts (sources.plan c.source q) (map address_of (asked_in later) ++ rest) p));
           }
 
-      whole-plan : (first later : List Event) (told : List Page) (reads : ReadsStarts starts told first) (c : ChoiceBehind sources offer q starts first later told reads) → IsPermutation (sources.plan c.source q) (map address_of (asked_in later)) → OfPlan (asked_in (first ++ later)) c.choice
+      whole-plan : (first later : List PoolEvent) (told : List Page) (reads : ReadsStarts starts told first) (c : ChoiceBehind sources offer q starts first later told reads) → IsPermutation (sources.plan c.source q) (map address_of (asked_in later)) → OfPlan (asked_in (first ++ later)) c.choice
       whole-plan first later told reads c p =
           behind-plan first later told reads c [] (subst (λ (l : List Address). IsPermutation (sources.plan c.source q) l) (sym (append-nil (map address_of (asked_in later)))) p)
 
@@ -165,11 +165,11 @@ module _ (allows : List ℕ → ℕ → List ℕ → List ℕ → Type 0) (offer
     pub requests : report.requests ≡ planned.run.pool.started
 
 -- the asks of the same events
-abbrev of-plan-at : (offer : Offer) (l m : List Event) (choice : offer.Choice) → l ≡ m → OfPlan offer (asked_in l) choice → OfPlan offer (asked_in m) choice
-of-plan-at offer l m choice e o = record { is_choice = o.is_choice; rest = o.rest; plan_is = subst (λ (x : List Event). IsPermutation (offer.addresses choice) (map address_of (asked_in x) ++ o.rest)) e o.plan_is }
+abbrev of-plan-at : (offer : Offer) (l m : List PoolEvent) (choice : offer.Choice) → l ≡ m → OfPlan offer (asked_in l) choice → OfPlan offer (asked_in m) choice
+of-plan-at offer l m choice e o = record { is_choice = o.is_choice; rest = o.rest; plan_is = subst (λ (x : List PoolEvent). IsPermutation (offer.addresses choice) (map address_of (asked_in x) ++ o.rest)) e o.plan_is }
 
 module _ (allows : List ℕ → ℕ → List ℕ → List ℕ → Type 0) (sources : Sources) (offer : Offer) (options : Options) (since now : WireState) (starts : List Address) (q : QueryData) (covered : Covered sources offer allows options since now starts q) (h : Happened allows options starts since now) where
-  abbrev Here : List Event → Pooled → Type 0
+  abbrev Here : List PoolEvent → Pooled → Type 0
   Here events pool = AreThese h.events h.pool events pool
 
   pub returns-whole : (report : Report) (rows : List Places) → Returns Here sources q starts report rows → WholeRun allows offer options since now starts report
@@ -191,9 +191,9 @@ module _ (allows : List ℕ → ℕ → List ℕ → List ℕ → Type 0) (sourc
   unfolding returns-whole
   whole-run report rows r = refl
 
-  told-by : (told versions : Versions) (fault : ClientFault) (first later : List Event) → first ++ later ≡ h.events → ((address : Address) → told address ≡ versions address) → Explains told options.budget fault later → Explains versions options.budget fault h.events
+  told-by : (told versions : Versions) (fault : ClientFault) (first later : List PoolEvent) → first ++ later ≡ h.events → ((address : Address) → told address ≡ versions address) → Explains told options.budget fault later → Explains versions options.budget fault h.events
   told-by told versions fault first later e same x =
-      subst (λ (l : List Event). Explains versions options.budget fault l) e (explains-later versions options.budget fault first later (explains-as told versions options.budget fault later same x))
+      subst (λ (l : List PoolEvent). Explains versions options.budget fault l) e (explains-later versions options.budget fault first later (explains-as told versions options.budget fault later same x))
 
   -- before the start pages were read, by each choice
   pub before-explained : (fault : ClientFault) (t u : Option (List ℕ)) → EndsBefore Here starts options.budget fault t u → (choice : offer.Choice) → offer.IsChoice choice → ExplainedRun allows offer options since now starts fault
@@ -207,7 +207,7 @@ module _ (allows : List ℕ → ℕ → List ℕ → List ℕ → Type 0) (sourc
         };
         versions = s.versions;
         has = s.has;
-        explains = subst (λ (l : List Event). Explains (λ address. Some (s.versions address)) options.budget fault l) b.runs.events_are (b.explains (λ address. Some (s.versions address)));
+        explains = subst (λ (l : List PoolEvent). Explains (λ address. Some (s.versions address)) options.budget fault l) b.runs.events_are (b.explains (λ address. Some (s.versions address)));
       }
 
   pub before-choice : (fault : ClientFault) (t u : Option (List ℕ)) (b : EndsBefore Here starts options.budget fault t u) (choice : offer.Choice) (is : offer.IsChoice choice) → (before-explained fault t u b choice is).planned.choice ≡ choice

@@ -16,7 +16,7 @@ use Rattle.tpf_base.specs.Sending.{Holds}
 use Rattle.http_ends.specs.Requests.{request_for}
 use Rattle.http_ends.specs.Cuts.{bytes_of, sent_of, received_of}
 use Rattle.pool_laws.specs.Causes.{RepliedOn}
-use Rattle.tpf_client.specs.Traffic.{Event, Asked, Came, Waited, Broke, Travels, Comes, StepWaits, StepBreaks}
+use Rattle.tpf_client.specs.Traffic.{PoolEvent, Asked, Came, Waited, Broke, Travels, Comes, StepWaits, StepBreaks}
 use Rattle.tpf_client.specs.Turns.{asked_in}
 use Rattle.tpf_client.proofs.Distinct.{put-held}
 use Rattle.tpf_client.proofs.Fewest.{no-break}
@@ -33,7 +33,7 @@ came-back ask a p q h c = Contains-permutation (ask ∷ held q) (held p) a (IsPe
 wait-back : (a : Ask) (p q : Pooled) → IsPermutation (held p) (held q) → Contains (held q) a → Contains (held p) a
 wait-back a p q h c = Contains-permutation (held q) (held p) a (IsPermutation-sym (held p) (held q) h) c
 
-or-asked : (ask a : Ask) (p q : Pooled) (events : List Event) → IsPermutation (held q) (ask ∷ held p) → Contains (held q) a ⊎ Contains (asked_in events) a → Contains (held p) a ⊎ Contains (ask ∷ asked_in events) a
+or-asked : (ask a : Ask) (p q : Pooled) (events : List PoolEvent) → IsPermutation (held q) (ask ∷ held p) → Contains (held q) a ⊎ Contains (asked_in events) a → Contains (held p) a ⊎ Contains (ask ∷ asked_in events) a
 or-asked ask a p q events h (inl c) =
     ⊎_elim (λ (e : ask ≡ a). inr (subst (λ (x : Ask). Contains (ask ∷ asked_in events) x) e (at_head ask (asked_in events)))) (λ (m : Contains (held p) a). inl m) (put-back ask a p q h c)
 or-asked ask a p q events h (inr m) = inr (in_tail ask a (asked_in events) m)
@@ -42,7 +42,7 @@ or-before : (a : Ask) (p q : Pooled) (asks : List Ask) → (Contains (held q) a 
 or-before a p q asks f (inl c) = inl (f c)
 or-before a p q asks f (inr m) = inr m
 
-pub held-asked : (allows : List ℕ → ℕ → List ℕ → List ℕ → Type 0) (events : List Event) (p q : Pooled) (v w : WireState) → Travels allows events p q v w → q.fault ≡ None → (a : Ask) → Contains (held q) a → Contains (held p) a ⊎ Contains (asked_in events) a
+pub held-asked : (allows : List ℕ → ℕ → List ℕ → List ℕ → Type 0) (events : List PoolEvent) (p q : Pooled) (v w : WireState) → Travels allows events p q v w → q.fault ≡ None → (a : Ask) → Contains (held q) a → Contains (held p) a ⊎ Contains (asked_in events) a
 held-asked allows [] p q v w t none a c = inl (subst (λ (x : Pooled). Contains (held x) a) t.0 c)
 held-asked allows (Asked ask ∷ events) p q v w t none a c = or-asked ask a p t.0.pool events (put-held ask p t.0.pool t.1.happens.0) (held-asked allows events t.0.pool q t.0.wire w t.2 none a c)
 held-asked allows (Came ask reply ∷ events) p q v w t none a c =
@@ -53,7 +53,7 @@ held-asked allows (Waited ∷ events) p q v w t none a c =
     or-before a p t.0.pool (asked_in events) (wait-back a p t.0.pool h.others) (held-asked allows events t.0.pool q t.0.wire w t.2 none a c)
 held-asked allows (Broke fault ∷ events) p q v w t none a c = let h : StepBreaks fault p t.0.pool v t.0.wire = t.1.happens in absurd (no-break allows (kept_of fault) events t.0.pool q t.0.wire w h.kept t.2 none)
 
-asked-front : (a : Ask) (first second : List Event) → Contains (asked_in first) a → Contains (asked_in (first ++ second)) a
+asked-front : (a : Ask) (first second : List PoolEvent) → Contains (asked_in first) a → Contains (asked_in (first ++ second)) a
 asked-front a [] second c = absurd (none_in a c)
 asked-front a (Asked ask ∷ first) second c =
     ⊎_elim (λ (e : ask ≡ a). subst (λ (x : Ask). Contains (ask ∷ asked_in (first ++ second)) x) e (at_head ask (asked_in (first ++ second))))
@@ -63,7 +63,7 @@ asked-front a (Waited ∷ first) second c = asked-front a first second c
 asked-front a (Broke fault ∷ first) second c = asked-front a first second c
 
 -- an ask that a pool lost was asked, where it held nothing at first
-pub lost-asked : (allows : List ℕ → ℕ → List ℕ → List ℕ → Type 0) (before more : List Event) (p q r : Pooled) (v w : WireState) → Travels allows before p q v w → held p ≡ [] → q.fault ≡ None → (a : Ask) → IsPermutation (held q) (a ∷ held r) → Contains (asked_in (before ++ more)) a
+pub lost-asked : (allows : List ℕ → ℕ → List ℕ → List ℕ → Type 0) (before more : List PoolEvent) (p q r : Pooled) (v w : WireState) → Travels allows before p q v w → held p ≡ [] → q.fault ≡ None → (a : Ask) → IsPermutation (held q) (a ∷ held r) → Contains (asked_in (before ++ more)) a
 lost-asked allows before more p q r v w t e none a h =
     ⊎_elim (λ (c : Contains (held p) a). absurd (none_in a (subst (λ (l : List Ask). Contains l a) e c))) (λ (m : Contains (asked_in before) a). asked-front a before more m)
     (held-asked allows before p q v w t none a (Contains-permutation (a ∷ held r) (held q) a (IsPermutation-sym (held q) (a ∷ held r) h) (at_head a (held r))))

@@ -10,8 +10,9 @@ use Rattle.join_core.specs.Evaluations.{HasHome}
 use Rattle.bgp_core.specs.Queries.{QueryData}
 use Rattle.request_pool.specs.Faults.{kept_of}
 use Rattle.request_pool.specs.Pools.{Pooled, Ask, held}
-use Rattle.pool_laws.specs.Requested.{LastRequest, NoneWhole, Unanswered, Replied, LinkRequests, TellsRequests, RequestedSince, AnsweredSince, SentByRises, addresses_of as links_addresses, last_whole, last_answered, whole_requests, whole_answers, over_links, count_sent, count_answered, any}
+use Rattle.pool_laws.specs.Requested.{LinkRequests, TellsRequests, RequestedSince, AnsweredSince, SentByRises, whole_requests, whole_answers, over_links, count_sent, count_answered, any}
 use Rattle.pool_laws.specs.Rising.{FailuresRose}
+use Rattle.pool_laws.proofs.RequestExact.{answered_sent}
 use Rattle.pool_laws.proofs.Counts.{count-cons, count-append, all_count}
 use Rattle.tpf_client.specs.declared.options.Options.{Options}
 use Rattle.tpf_client.specs.declared.options.Report.{Report}
@@ -54,20 +55,8 @@ over-le : (f g : ℕ → ℕ) → ((k : ℕ) → f k ≤ g k) → (first n : ℕ
 over-le f g s first zero = omega arith
 over-le f g s first (suc n) = let a = over-le f g s first n in let b = s (first + n) in omega (arith, a, b)
 
-last-le : (test : Address → Bool) (l : LastRequest) → count_by test (last_answered l) ≤ count_by test (last_whole l)
-last-le test NoneWhole = omega arith
-last-le test (Unanswered address) = omega arith
-last-le test (Replied address) = omega arith
-
-answers-le : (test : Address → Bool) (r : LinkRequests) → count_by test (whole_answers r) ≤ count_by test (whole_requests r)
-answers-le test r =
-    let a = count-append test (links_addresses r.answered) (last_answered r.last) in
-    let b = count-append test (links_addresses r.answered) (last_whole r.last) in
-    let c = last-le test r.last in
-    omega (arith, a, b, c)
-
 pub all-answers : (test : Address → Bool) (on : ℕ → LinkRequests) (since now : WireState) → count_answered test on since now ≤ count_sent test on since now
-all-answers test on since now = over-le (λ k. count_by test (whole_answers (on k))) (λ k. count_by test (whole_requests (on k))) (λ k. answers-le test (on k)) since.given (now.given - since.given)
+all-answers test on since now = over-le (λ k. count_by test (whole_answers (on k))) (λ k. count_by test (whole_requests (on k))) (λ k. answered_sent test (on k)) since.given (now.given - since.given)
 
 all-split : (test : Address → Bool) (on : ℕ → LinkRequests) (since now : WireState) → count_sent any on since now ≡ count_sent test on since now + count_sent (λ a. not (test a)) on since now
 all-split test on since now =

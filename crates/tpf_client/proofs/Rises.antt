@@ -13,7 +13,7 @@ use Rattle.request_pool.specs.Steps.{StepsTo}
 use Rattle.pool_laws.specs.Answers.{TellsAll}
 use Rattle.pool_laws.specs.Rising.{IsServedBySome, FailuresRose, StepRose, EndsByRises}
 use Rattle.tpf_client.specs.declared.options.Options.{Options}
-use Rattle.tpf_client.specs.Traffic.{Event, Broke, Travels, EndsWith, IsLawful, without_fault, StepBreaks}
+use Rattle.tpf_client.specs.Traffic.{PoolEvent, Broke, Travels, EndsWith, IsLawful, without_fault, StepBreaks}
 use Rattle.tpf_client.specs.Turns.{asked_in}
 use Rattle.tpf_client.specs.Calls.{RunsPool}
 use Rattle.tpf_client.specs.Honest.{Laws}
@@ -79,7 +79,7 @@ module _ (laws : Laws) (traffic : TrafficLaws) (allows : List ℕ → ℕ → Li
     }
 
     -- at each moment
-    pub rises-so : (events : List Event) (p : Pooled) (v : WireState) → AllByRecursion (IsOwn starts) (asked_in events) → Travels allows events (begun options) p since v → Rises (length (asked_in events)) p v
+    pub rises-so : (events : List PoolEvent) (p : Pooled) (v : WireState) → AllByRecursion (IsOwn starts) (asked_in events) → Travels allows events (begun options) p since v → Rises (length (asked_in events)) p v
     rises-so events p v a t =
         by-events allows (begun options) (IsOwn starts) Rises rises-kept events (begun options) p since v (begun-between laws traffic starts options allows since lawful (IsOwn starts)) a begun-rises t
 
@@ -88,12 +88,12 @@ module _ (laws : Laws) (traffic : TrafficLaws) (allows : List ℕ → ℕ → Li
     ends-as : (fault : PoolFault) (n m x y : ℕ) → n ≡ m → x ≡ y → EndsByRises fault (n + 1) since.faults x → EndsByRises fault (m + 1) since.faults y
     ends-as fault n m x y e f h = subst (λ (k : ℕ). EndsByRises fault (k + 1) since.faults y) e (subst (λ (z : ℕ). EndsByRises fault (n + 1) since.faults z) f h)
 
-    pub ends-by-rises : (now : WireState) (fault : PoolFault) (events : List Event) (p : Pooled) → EndsWith (Broke fault) events → RunsPool allows options since now events p → AllByRecursion (IsOwn starts) (asked_in events)
+    pub ends-by-rises : (now : WireState) (fault : PoolFault) (events : List PoolEvent) (p : Pooled) → EndsWith (Broke fault) events → RunsPool allows options since now events p → AllByRecursion (IsOwn starts) (asked_in events)
         → EndsByRises fault (options.retries + 1) since.faults now.faults
     ends-by-rises now fault events p e r a =
         let x = ending laws traffic allows options since now lawful starts events (Broke fault) p e r a in
         let h : StepBreaks fault x.mid p x.between r.between = x.last.happens in
-        let front = asks-front (IsOwn starts) x.before (Broke fault ∷ []) (subst (λ (l : List Event). AllByRecursion (IsOwn starts) (asked_in l)) x.is_last a) in
+        let front = asks-front (IsOwn starts) x.before (Broke fault ∷ []) (subst (λ (l : List PoolEvent). AllByRecursion (IsOwn starts) (asked_in l)) x.is_last a) in
         let b = between-after allows (begun options) (IsOwn starts) x.before (begun options) x.mid since x.between front (begun-between laws traffic starts options allows since lawful (IsOwn starts)) x.first in
         let at = taken allows (begun options) (IsOwn starts) (Broke fault) x.mid p x.between r.between h.some h.had_none b x.last in
         let rose = step-rose (length (asked_in x.before)) (Err fault) x.mid p (without_fault p) x.between r.between at (rises-so x.before x.mid x.between front x.first) h.steps in

@@ -8,7 +8,7 @@ use Rattle.tpf_base.specs.Links.{WireState}
 use Rattle.request_pool.specs.Pools.{Pooled}
 use Rattle.pool_laws.specs.Sending.{SentSince}
 use Rattle.tpf_client.specs.declared.options.Options.{Options}
-use Rattle.tpf_client.specs.Traffic.{Event, IsLawful, without_fault}
+use Rattle.tpf_client.specs.Traffic.{PoolEvent, IsLawful, without_fault}
 use Rattle.tpf_client.specs.Turns.{asked_in, address_of}
 use Rattle.tpf_client.specs.Calls.{RunsPool}
 use Rattle.tpf_client.specs.Honest.{Laws}
@@ -26,7 +26,7 @@ module _ (laws : Laws) (traffic : TrafficLaws) (allows : List ℕ → ℕ → Li
     breaks = λ n fault p q v w at i t kept. traffic.faults_sent asked since q w (traffic.steps_sent asked since (Err fault) p (without_fault q) v w at.given at.suits i t);
   }
 
-  sends-only : (now : WireState) (events : List Event) (p : Pooled) → AllByRecursion (λ ask. Contains asked ask.address) (asked_in events) → RunsPool allows options since now events p → SendsOnly asked since now
+  sends-only : (now : WireState) (events : List PoolEvent) (p : Pooled) → AllByRecursion (λ ask. Contains asked ask.address) (asked_in events) → RunsPool allows options since now events p → SendsOnly asked since now
   sends-only now events p a r =
       let i = by-events allows (begun options) (λ ask. Contains asked ask.address) (λ n x v. SentSince (Contains asked) since x v) sent-kept events (begun options) p since r.between
       (begun-between laws traffic starts options allows since lawful (λ ask. Contains asked ask.address)) a (traffic.empty_sent asked options.links options.retries options.budget options.max_body since) r.travels in

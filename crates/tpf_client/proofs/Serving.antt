@@ -13,7 +13,7 @@ use Rattle.join_core.specs.Blocks.{IsBlockSize}
 use Rattle.join_core.specs.Evaluations.{HasHome}
 use Rattle.plan_laws.specs.Servers.{server_world}
 use Rattle.tpf_client.specs.declared.options.Options.{Options}
-use Rattle.tpf_client.specs.Traffic.{Event, IsLawful}
+use Rattle.tpf_client.specs.Traffic.{PoolEvent, IsLawful}
 use Rattle.fragment_page.specs.declared.page.Page.{Page}
 use Rattle.join_core.specs.Beginnings.{no_names_bound}
 use Rattle.tpf_client.specs.Turns.{AsksAt}
@@ -61,7 +61,7 @@ module _ (laws : Laws) (allows : List ℕ → ℕ → List ℕ → List ℕ → 
     addresses = refl;
   }
 
-  choice-behind : (first later : List Event) (pool : Pooled) → RunsPool allows options since now (first ++ later) pool → AsksAt (start ∷ []) (first ++ later) → (told : List Page) (reads : ReadsStarts (start ∷ []) told first) → ChoiceBehind (world_sources block) offer q (start ∷ []) first later told reads
+  choice-behind : (first later : List PoolEvent) (pool : Pooled) → RunsPool allows options since now (first ++ later) pool → AsksAt (start ∷ []) (first ++ later) → (told : List Page) (reads : ReadsStarts (start ∷ []) told first) → ChoiceBehind (world_sources block) offer q (start ∷ []) first later told reads
   choice-behind first later pool r asks told reads =
       let o = one-read start told first reads in
       let v = world-of laws allows p.history p.config served options since now start honest lawful limit block sized first later pool r asks o.page o.reads in

@@ -10,7 +10,7 @@ use Rattle.request_pool.specs.Pools.{Pooled, Ask, held}
 use Rattle.request_pool.specs.Owned.{SuitsWire}
 use Rattle.tpf_client.specs.declared.fault.ClientFault.{ClientFault}
 use Rattle.tpf_client.specs.declared.fault.ClientFault.TheVariants as faults
-use Rattle.tpf_client.specs.Traffic.{Event}
+use Rattle.tpf_client.specs.Traffic.{PoolEvent}
 use Rattle.tpf_client.specs.Turns.{asked_in, WaitFew}
 use Rattle.tpf_client.specs.Starts.{start_ask, ReadsStart, ReadsStarts, AsksStarts, HasStart, HasNoStart, HasStarts, HasNoStarts, forms_of}
 use Rattle.tpf_client.proofs.Accounting.{asked-append}
@@ -38,18 +38,18 @@ few-none : (waiting : ℕ) → waiting ≡ 0 → waiting ≤ 1
 few-none waiting e = omega (arith, e)
 
 -- one ask at most, of a pool that held none
-few-start : (p : Pooled) (events : List Event) → held p ≡ [] → length (asked_in events) ≤ 1 → WaitFew 1 (length (held p)) events
+few-start : (p : Pooled) (events : List PoolEvent) → held p ≡ [] → length (asked_in events) ≤ 1 → WaitFew 1 (length (held p)) events
 few-start p events e l = few-asked 1 (length (held p)) events (few-one (length (held p)) (length (asked_in events)) (none-many p e) l)
 
 -- ---- one start more
 
-reads-more : (starts : List Address) (pages : List Page) (start : Address) (page : Page) (first second : List Event) → ReadsStarts starts pages first → ReadsStart start page second → ReadsStarts (starts ++ start ∷ []) (pages ++ page ∷ []) (first ++ second)
-reads-more [] [] start page first second h r = (second, [], ap (λ (l : List Event). l ++ second) h ∙ sym (append-nil second), r, refl)
+reads-more : (starts : List Address) (pages : List Page) (start : Address) (page : Page) (first second : List PoolEvent) → ReadsStarts starts pages first → ReadsStart start page second → ReadsStarts (starts ++ start ∷ []) (pages ++ page ∷ []) (first ++ second)
+reads-more [] [] start page first second h r = (second, [], ap (λ (l : List PoolEvent). l ++ second) h ∙ sym (append-nil second), r, refl)
 reads-more [] (p ∷ pages) start page first second h r = absurd h
 reads-more (s ∷ starts) [] start page first second h r = absurd h
-reads-more (s ∷ starts) (p ∷ pages) start page first second h r = (h.0, h.1 ++ second, ap (λ (l : List Event). l ++ second) h.2 ∙ append_assoc h.0 h.1 second, h.3, reads-more starts pages start page h.1 second h.4 r)
+reads-more (s ∷ starts) (p ∷ pages) start page first second h r = (h.0, h.1 ++ second, ap (λ (l : List PoolEvent). l ++ second) h.2 ∙ append_assoc h.0 h.1 second, h.3, reads-more starts pages start page h.1 second h.4 r)
 
-pub reads-many : (starts : List Address) (pages : List Page) (events : List Event) → ReadsStarts starts pages events → length pages ≡ length starts
+pub reads-many : (starts : List Address) (pages : List Page) (events : List PoolEvent) → ReadsStarts starts pages events → length pages ≡ length starts
 reads-many [] [] events h = refl
 reads-many [] (page ∷ pages) events h = absurd h
 reads-many (start ∷ starts) [] events h = absurd h
@@ -78,7 +78,7 @@ module _ (allows later : List ℕ → ℕ → List ℕ → List ℕ → Type 0) 
     suits = s.suits;
   }
 
-  asked-fail : (start : Address) (more all : List Address) (events : List Event) → all ≡ starts ++ start ∷ more → (asked_in events ≡ start_ask start ∷ []) ⊎ (asked_in events ≡ []) → AsksStarts all (f.events ++ events)
+  asked-fail : (start : Address) (more all : List Address) (events : List PoolEvent) → all ≡ starts ++ start ∷ more → (asked_in events ≡ start_ask start ∷ []) ⊎ (asked_in events ≡ []) → AsksStarts all (f.events ++ events)
   asked-fail start more all events e (inl one) = record {
     first = starts ++ start ∷ [];
     later = more;
@@ -132,7 +132,7 @@ behind-at starts i = sym (take-append-drop i starts)
 as-many : (n m k : ℕ) → 0 < n → m ≡ n → k ≡ m → 0 < k
 as-many n m k l e f = omega (arith, l, e, f)
 
-pub some-read : (starts : List Address) (i : ℕ) (pages : List Page) (events : List Event) (forms : List Form) → 0 < length starts → length starts ≤ i → forms ≡ forms_of pages → ReadsStarts (take i starts) pages events → 0 < length forms
+pub some-read : (starts : List Address) (i : ℕ) (pages : List Page) (events : List PoolEvent) (forms : List Form) → 0 < length starts → length starts ≤ i → forms ≡ forms_of pages → ReadsStarts (take i starts) pages events → 0 < length forms
 some-read starts i pages events forms some few e h =
     as-many (length starts) (length pages) (length forms) some (reads-many (take i starts) pages events h ∙ ap (λ (l : List Address). length l) (take_all i starts few))
     (ap (λ (l : List Form). length l) e ∙ length-map pages (λ page. page.form))

@@ -12,25 +12,17 @@ use Rattle.request_pool.specs.Closing.{ClosesSome}
 use Rattle.tpf_client.specs.declared.options.Options.{Options}
 use Rattle.tpf_client.specs.declared.options.Report.{Report}
 use Rattle.tpf_client.specs.declared.fault.ClientFault.{ClientFault}
-use Rattle.tpf_client.specs.Traffic.{Event, Travels}
+use Rattle.tpf_client.specs.Traffic.{PoolEvent, Travels}
 use Rattle.tpf_client.specs.Sources.{Sources}
 use Rattle.tpf_client.specs.Shown.{ShowsGiven, WritesShown}
 use Rattle.tpf_client.specs.Turns.{AsksAt, WaitFew}
 use Rattle.tpf_client.specs.Calls.{Ran, RunsPool, Happened, AreThese, Returns, WritesAll, WritesSome, Before, Behind, AtEnd}
 use Rattle.tpf_client.proofs.Homes.{starts-alone}
 
-pub if-ok : {A B : Type 0} (r : Result A B) (P Q : A → Type 0) → ((x : A) → P x → Q x) → IfOk r P → IfOk r Q
-if-ok (Ok x) P Q f p = f x p
-if-ok (Err e) P Q f p = tt
-
--- the same, with what is known before what is made of it
+-- what holds of an answer, with what is known of it before what is made of it
 pub if-ok-from : {A B : Type 0} (r : Result A B) (P Q : A → Type 0) → IfOk r P → ((x : A) → P x → Q x) → IfOk r Q
 if-ok-from (Ok x) P Q p f = f x p
 if-ok-from (Err e) P Q p f = tt
-
-pub if-err : {A B : Type 0} (r : Result A B) (P Q : B → Type 0) → ((x : B) → P x → Q x) → IfErr r P → IfErr r Q
-if-err (Ok x) P Q f p = tt
-if-err (Err e) P Q f p = f e p
 
 -- a fault is a fault, whichever it is
 pub on-err-of : {A B : Type 0} (r : Result A B) (P : B → Type 0) (Q : Type 0) → ((x : B) → P x → Q) → IfErr r P → OnErr r Q
@@ -55,14 +47,9 @@ unfoldable pub either-way : {A B : Type 0} (r : Result A B) (P : A → Type 0) (
 either-way (Ok x) P Q S p q f g = f x p
 either-way (Err e) P Q S p q f g = g e q
 
--- the same, where what is answered does not matter
-pub either-on : {A B : Type 0} (r : Result A B) (P : Type 0) (Q : B → Type 0) (S : Type 0) → OnOk r P → IfErr r Q → (P → S) → ((e : B) → Q e → S) → S
-either-on (Ok x) P Q S p q f g = f p
-either-on (Err e) P Q S p q f g = g e q
-
 -- what the pool held is closed
 pub ran-closed : (allows : List ℕ → ℕ → List ℕ → List ℕ → Type 0) (options : Options) (most : ℕ) (begun new : Pooled) (since between now : WireState) → begun ≡ empty_pool options.links options.retries options.budget options.max_body → ClosesSome (held_on new) (λ k. 0) between now
-    → (events : List Event) (pool : Pooled) → Ran allows most begun new since between events pool → RunsPool allows options since now events pool
+    → (events : List PoolEvent) (pool : Pooled) → Ran allows most begun new since between events pool → RunsPool allows options since now events pool
 ran-closed allows options most begun new since between now e closes events pool r = record {
   between = between;
   travels = subst (λ (x : Pooled). Travels allows events x pool since between) e (subst (λ (x : Pooled). Travels allows events begun x since between) (sym r.is_pool) r.travels);
@@ -73,22 +60,22 @@ ran-closed allows options most begun new since between now e closes events pool 
 -- ---- what happened in a call, whose links are closed at last
 
 -- these are what they are
-same-these : (events : List Event) (pool : Pooled) → AreThese events pool events pool
+same-these : (events : List PoolEvent) (pool : Pooled) → AreThese events pool events pool
 same-these events pool = record { events_are = refl; pool_is = refl }
 
 module _ (allows : List ℕ → ℕ → List ℕ → List ℕ → Type 0) (options : Options) (starts : List Address) (most : ℕ) (begun new : Pooled) (since between now : WireState)
     (is : begun ≡ empty_pool options.links options.retries options.budget options.max_body) (closes : ClosesSome (held_on new) (λ k. 0) between now) where
-  abbrev From : List Event → Pooled → Type 0
+  abbrev From : List PoolEvent → Pooled → Type 0
   From events pool = Ran allows most begun new since between events pool
 
   -- this holds of what happened, in which no more asks wait at any moment than the most
-  abbrev pub Once : ((List Event → Pooled → Type 0) → Type 0) → Type 0
+  abbrev pub Once : ((List PoolEvent → Pooled → Type 0) → Type 0) → Type 0
   Once Q = (h : Happened allows options starts since now) × WaitFew most 0 h.events × Q (AreThese h.events h.pool)
 
-  abbrev happened-so : (events : List Event) (pool : Pooled) → From events pool → AsksAt starts events → Happened allows options starts since now
+  abbrev happened-so : (events : List PoolEvent) (pool : Pooled) → From events pool → AsksAt starts events → Happened allows options starts since now
   happened-so events pool r asks = record { events = events; pool = pool; runs = ran-closed allows options most begun new since between now is closes events pool r; asks = asks }
 
-  few-so : (events : List Event) (pool : Pooled) → From events pool → WaitFew most 0 events
+  few-so : (events : List PoolEvent) (pool : Pooled) → From events pool → WaitFew most 0 events
   few-so events pool r = subst (λ (p : Pooled). WaitFew most (length (held p)) events) is r.few
 
   module _ (sources : Sources) (q : QueryData) where
@@ -149,13 +136,13 @@ module _ (allows : List ℕ → ℕ → List ℕ → List ℕ → Type 0) (optio
         (o.0, o.1, record { some = o.2; shown = shows-once budget fault out.faults out'.faults out.taken out'.taken w.some w.shown })
 
   -- however it ended, what is said of it is said of one list of events
-  pub record EndedOnce {A B : Type 0} (result : Result A B) (P : (List Event → Pooled → Type 0) → A → Type 0) (S : (List Event → Pooled → Type 0) → B → Type 0) : Type 0 where
+  pub record EndedOnce {A B : Type 0} (result : Result A B) (P : (List PoolEvent → Pooled → Type 0) → A → Type 0) (S : (List PoolEvent → Pooled → Type 0) → B → Type 0) : Type 0 where
     pub happened : Happened allows options starts since now
     pub few : WaitFew most 0 happened.events
     pub ok : IfOk result (P (AreThese happened.events happened.pool))
     pub err : IfErr result (S (AreThese happened.events happened.pool))
 
-  pub ended-once : {A B : Type 0} (result : Result A B) (P : (List Event → Pooled → Type 0) → A → Type 0) (S : (List Event → Pooled → Type 0) → B → Type 0) → IfOk result (P From) → IfErr result (S From)
+  pub ended-once : {A B : Type 0} (result : Result A B) (P : (List PoolEvent → Pooled → Type 0) → A → Type 0) (S : (List PoolEvent → Pooled → Type 0) → B → Type 0) → IfOk result (P From) → IfErr result (S From)
       → ((x : A) → P From x → Once (λ ran. P ran x)) → ((e : B) → S From e → Once (λ ran. S ran e)) → EndedOnce result P S
   ended-once (Ok x) P S ok err f g = let o = f x ok in record { happened = o.0; few = o.1; ok = o.2; err = tt }
   ended-once (Err e) P S ok err f g = let o = g e err in record { happened = o.0; few = o.1; ok = tt; err = o.2 }

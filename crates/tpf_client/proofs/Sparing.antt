@@ -12,7 +12,7 @@ use Rattle.request_pool.specs.Steps.{StepsTo}
 use Rattle.pool_laws.specs.Provoking.{WaitsReady, SparesWire, HasHung, StepSpares}
 use Rattle.pool_laws.specs.Rising.{IsServedBySome}
 use Rattle.tpf_client.specs.declared.options.Options.{Options}
-use Rattle.tpf_client.specs.Traffic.{Event, IsLawful, without_fault}
+use Rattle.tpf_client.specs.Traffic.{PoolEvent, IsLawful, without_fault}
 use Rattle.tpf_client.specs.Turns.{asked_in}
 use Rattle.tpf_client.specs.Calls.{RunsPool}
 use Rattle.tpf_client.specs.Honest.{Laws}
@@ -89,7 +89,7 @@ module _ (laws : Laws) (traffic : TrafficLaws) (allows : List ℕ → ℕ → Li
     spares = record { provoked = refl; faults = λ every. refl };
   }
 
-  pub spares-so : (now : WireState) (events : List Event) (p : Pooled) → NoneOpen since → AllByRecursion (IsOwn starts) (asked_in events) → RunsPool allows options since now events p → SparesWire since now
+  pub spares-so : (now : WireState) (events : List PoolEvent) (p : Pooled) → NoneOpen since → AllByRecursion (IsOwn starts) (asked_in events) → RunsPool allows options since now events p → SparesWire since now
   spares-so now events p none a r =
       let i = by-events allows (begun options) (IsOwn starts) Spares spares-kept events (begun options) p since r.between (begun-between laws traffic starts options allows since lawful (IsOwn starts)) a (begun-spares none) r.travels in
       record { provoked = r.closes.provoked ∙ i.spares.provoked; faults = λ every. r.closes.faults ∙ i.spares.faults every }

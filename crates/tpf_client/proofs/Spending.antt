@@ -21,7 +21,7 @@ use Rattle.tpf_client.specs.declared.options.Options.{Options}
 use Rattle.tpf_client.specs.declared.options.Report.{Report}
 use Rattle.tpf_client.specs.declared.fault.ClientFault.{ClientFault}
 use Rattle.tpf_client.specs.declared.fault.ClientFault.TheVariants as faults
-use Rattle.tpf_client.specs.Traffic.{Event, Broke, EndsWith, IsLawful, without_fault, StepBreaks}
+use Rattle.tpf_client.specs.Traffic.{PoolEvent, Broke, EndsWith, IsLawful, without_fault, StepBreaks}
 use Rattle.tpf_client.specs.Causes.{Explains, Versions}
 use Rattle.tpf_client.specs.Turns.{AsksAt, asked_in, address_of}
 use Rattle.tpf_client.specs.Calls.{Returns, WritesSome, RunsPool, Happened, AreThese}
@@ -83,11 +83,11 @@ module _ (laws : Laws) (traffic : TrafficLaws) (allows : List ℕ → ℕ → Li
     few : p.started + length (held p) ≤ (now.given - since.given) + rises + length asked
     over : IsOverBudget (without_fault p)
 
-  spent-so : (events : List Event) (p : Pooled) → EndsWith (Broke pool.Budget) events → RunsPool allows options since now events p → AsksAt starts events → Spent p
+  spent-so : (events : List PoolEvent) (p : Pooled) → EndsWith (Broke pool.Budget) events → RunsPool allows options since now events p → AsksAt starts events → Spent p
   spent-so events p e r a =
       let x = ending laws traffic allows options since now lawful starts events (Broke pool.Budget) p e r a in
       let h : StepBreaks pool.Budget x.mid p x.between r.between = x.last.happens in
-      let front = asks-front IsAt x.before (Broke pool.Budget ∷ []) (subst (λ (l : List Event). AsksAt starts l) x.is_last a) in
+      let front = asks-front IsAt x.before (Broke pool.Budget ∷ []) (subst (λ (l : List PoolEvent). AsksAt starts l) x.is_last a) in
       let first = begun-between laws traffic starts options allows since lawful IsAt in
       let answered : AnsweredSince (map address_of (asked_in x.before)) since x.mid x.between =
       with-asks allows (begun options) IsAt (WereAnswered laws traffic allows options since now lawful starts) (answered-kept laws traffic allows options since now lawful starts) x.before (begun options) x.mid since x.between first front
@@ -111,10 +111,10 @@ module _ (laws : Laws) (traffic : TrafficLaws) (allows : List ℕ → ℕ → Li
 
   -- ---- the budget
 
-  limit-of : (events : List Event) (p : Pooled) → RunsPool allows options since now events p → AsksAt starts events → p.limit ≡ options.max_body
+  limit-of : (events : List PoolEvent) (p : Pooled) → RunsPool allows options since now events p → AsksAt starts events → p.limit ≡ options.max_body
   limit-of events p r a = ap (λ (x : Pooled). x.limit) (same-pool laws traffic allows options since now lawful starts events p a r)
 
-  requests-of : (events : List Event) (p : Pooled) → EndsWith (Broke pool.Budget) events → RunsPool allows options since now events p → AsksAt starts events → SpendsRequests options since now
+  requests-of : (events : List PoolEvent) (p : Pooled) → EndsWith (Broke pool.Budget) events → RunsPool allows options since now events p → AsksAt starts events → SpendsRequests options since now
   requests-of events p e r a =
       let s = spent-so events p e r a in
       let budget = same-bounds laws traffic allows options since now lawful starts events p a r in
@@ -136,7 +136,7 @@ module _ (laws : Laws) (traffic : TrafficLaws) (allows : List ℕ → ℕ → Li
       together : (n b s h g r k l x : ℕ) → b ≡ n → b ≤ s → s + h ≤ g + r + k → l ≡ k → l - h ≤ x → n ≤ g + x + r
       together n b s h g r k l x e o f i m = omega (arith, e, o, f, i, m)
 
-  few-tries : (events : List Event) (p : Pooled) → EndsWith (Broke pool.Budget) events → RunsPool allows options since now events p → AsksAt starts events → options.budget < (options.retries + 1) * length (asked_in events)
+  few-tries : (events : List PoolEvent) (p : Pooled) → EndsWith (Broke pool.Budget) events → RunsPool allows options since now events p → AsksAt starts events → options.budget < (options.retries + 1) * length (asked_in events)
   few-tries events p e r a =
       let s = spent-so events p e r a in
       let budget = same-bounds laws traffic allows options since now lawful starts events p a r in
@@ -145,7 +145,7 @@ module _ (laws : Laws) (traffic : TrafficLaws) (allows : List ℕ → ℕ → Li
       let most : p.started < (options.retries + 1) * length (asked_in events) = most_waits (options.retries + 1) ((options.retries + 1) * length (asked_in events)) p s.over.waits k.most in
       omega (arith, budget, over, most)
 
-  tries-of : (events : List Event) (p : Pooled) → EndsWith (Broke pool.Budget) events → RunsPool allows options since now events p → AsksAt starts events → SpendsTries options events p
+  tries-of : (events : List PoolEvent) (p : Pooled) → EndsWith (Broke pool.Budget) events → RunsPool allows options since now events p → AsksAt starts events → SpendsTries options events p
   tries-of events p e r a =
       let s = spent-so events p e r a in
       let budget = same-bounds laws traffic allows options since now lawful starts events p a r in
@@ -196,7 +196,7 @@ module _ (laws : Laws) (traffic : TrafficLaws) (allows : List ℕ → ℕ → Li
 
   -- ---- of a call
 
-  spends-requests : (fault : ClientFault) (versions : Versions) (events : List Event) (p : Pooled) → Explains versions options.budget fault events → RunsPool allows options since now events p → AsksAt starts events → ForBudget (SpendsRequests options since now) fault
+  spends-requests : (fault : ClientFault) (versions : Versions) (events : List PoolEvent) (p : Pooled) → Explains versions options.budget fault events → RunsPool allows options since now events p → AsksAt starts events → ForBudget (SpendsRequests options since now) fault
   spends-requests faults.Exchange versions events p e r a = tt
   spends-requests faults.Stalled versions events p e r a = tt
   spends-requests (faults.Cut received) versions events p e r a = tt
@@ -207,7 +207,7 @@ module _ (laws : Laws) (traffic : TrafficLaws) (allows : List ℕ → ℕ → Li
   spends-requests faults.Sink versions events p e r a = tt
   spends-requests faults.OutOfMemory versions events p e r a = tt
 
-  spends-tries : (fault : ClientFault) (versions : Versions) (events : List Event) (p : Pooled) → Explains versions options.budget fault events → RunsPool allows options since now events p → AsksAt starts events → ForBudget (SpendsTries options events p) fault
+  spends-tries : (fault : ClientFault) (versions : Versions) (events : List PoolEvent) (p : Pooled) → Explains versions options.budget fault events → RunsPool allows options since now events p → AsksAt starts events → ForBudget (SpendsTries options events p) fault
   spends-tries faults.Exchange versions events p e r a = tt
   spends-tries faults.Stalled versions events p e r a = tt
   spends-tries (faults.Cut received) versions events p e r a = tt

@@ -16,7 +16,7 @@ use Rattle.tpf_client.specs.declared.asks.Next.{Next}
 use Rattle.tpf_client.specs.declared.asks.Next.TheVariants as next
 use Rattle.tpf_client.specs.declared.fault.ClientFault.{ClientFault}
 use Rattle.tpf_client.specs.declared.fault.ClientFault.TheVariants as faults
-use Rattle.tpf_client.specs.Traffic.{Event, Asked, Came, Waited, Broke, Moves, IsLawful}
+use Rattle.tpf_client.specs.Traffic.{PoolEvent, Asked, Came, Waited, Broke, Moves, IsLawful}
 use Rattle.tpf_client.specs.Causes.{Explains, Versions, shown_as}
 use Rattle.tpf_client.specs.Asking.{Arrives, Stops, PutsOne, StepsOn, ask_of, IsReadFault, ReadsPage}
 use Rattle.tpf_client.specs.Starts.{StartsOne, HasNoStart, start_ask}
@@ -50,7 +50,7 @@ module _ (allows : List ℕ → ℕ → List ℕ → List ℕ → Type 0) (start
   arrived-is : (arrived : Arrived) → Arrives allows arrived p q v w → IsPermutation (held p) (start_ask start ∷ []) → (ask_of arrived ≡ start_ask start) × (held q ≡ [])
   arrived-is arrived h one = only-one (held q) (ask_of arrived) (start_ask start) (IsPermutation-trans _ _ _ (IsPermutation-sym _ _ h.others) one)
 
-  explains-read : (versions : Versions) (fault : ClientFault) (arrived : Arrived) (before : List Event) → IsReadFault arrived fault → Explains versions budget fault (before ++ Came (ask_of arrived) arrived.reply ∷ [])
+  explains-read : (versions : Versions) (fault : ClientFault) (arrived : Arrived) (before : List PoolEvent) → IsReadFault arrived fault → Explains versions budget fault (before ++ Came (ask_of arrived) arrived.reply ∷ [])
   explains-read versions faults.Exchange arrived before e = absurd e
   explains-read versions faults.Stalled arrived before e = absurd e
   explains-read versions (faults.Cut received) arrived before e = absurd e
@@ -120,7 +120,7 @@ module _ (allows : List ℕ → ℕ → List ℕ → List ℕ → Type 0) (start
     events = Asked (start_ask start) ∷ [] ++ k.events;
     travels = travels-then allows (Asked (start_ask start) ∷ []) k.events p q r v v w (one-event allows (Asked (start_ask start)) p q v v (put-moves h s l)) k.travels;
     reply = k.reply;
-    last = record { before = Asked (start_ask start) ∷ k.last.before; is_last = ap (λ (x : List Event). Asked (start_ask start) ∷ x) k.last.is_last };
+    last = record { before = Asked (start_ask start) ∷ k.last.before; is_last = ap (λ (x : List PoolEvent). Asked (start_ask start) ∷ x) k.last.is_last };
     taken = k.taken;
     pages = (tt, k.pages);
     asked_are = ap (λ (l : List Ask). start_ask start ∷ l) k.asked_are;

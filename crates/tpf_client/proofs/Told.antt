@@ -64,10 +64,6 @@ module _ (starts : List Address) (versions : List (Option ℕ)) (address : Addre
       ∙ (ap (λ (l : List Address). told_at l (get_or versions i None ∷ drop (i + 1) versions) address) whole
       ∙ (other-so start next rest (get_or versions i None) (drop (i + 1) versions) address (apart (authority_of start) (authority_of address) differs) ∙ ap (λ (l : List Address). told_at l (drop (i + 1) versions) address) (sym behind)))
 
-  -- no version is left
-  pub none-at : length versions ≤ i → told_at (drop i starts) (drop i versions) address ≡ None
-  none-at few = ap (λ (l : List (Option ℕ)). told_at (drop i starts) l address) (drop_all i versions few)
-
 -- the version at the first place is the first
 pub first-at : (versions : List (Option ℕ)) (version : Option ℕ) → 0 < length versions → version ≡ get_or versions 0 version → version ≡ told_first versions
 first-at [] version some e = absurd (omega (arith, some))

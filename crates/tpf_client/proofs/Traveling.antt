@@ -3,16 +3,16 @@ use Rattle.std.proofs.Common.{ℕ, ◌++◌, List, [], ◌∷◌, map, refl, sym
 use Rattle.tpf_base.specs.Links.{WireState, SameAllowed}
 use Rattle.request_pool.specs.Pools.{Pooled, Ask}
 use Rattle.request_pool.specs.Owned.{SuitsWire}
-use Rattle.tpf_client.specs.Traffic.{Event, Asked, Waited, Moves, Travels, IsLawful}
+use Rattle.tpf_client.specs.Traffic.{PoolEvent, Asked, Waited, Moves, Travels, IsLawful}
 use Rattle.tpf_client.specs.Asking.{PutsAll, AreWaits}
 
 pub no-events : (allows : List ℕ → ℕ → List ℕ → List ℕ → Type 0) (p : Pooled) (w : WireState) → Travels allows [] p p w w
 no-events allows p w = (refl, refl)
 
-pub one-event : (allows : List ℕ → ℕ → List ℕ → List ℕ → Type 0) (event : Event) (p q : Pooled) (v w : WireState) → Moves allows event p q v w → Travels allows (event ∷ []) p q v w
+pub one-event : (allows : List ℕ → ℕ → List ℕ → List ℕ → Type 0) (event : PoolEvent) (p q : Pooled) (v w : WireState) → Moves allows event p q v w → Travels allows (event ∷ []) p q v w
 one-event allows event p q v w m = (record { pool = q; wire = w }, m, (refl, refl))
 
-pub travels-then : (allows : List ℕ → ℕ → List ℕ → List ℕ → Type 0) (first second : List Event) (p q r : Pooled) (u v w : WireState)
+pub travels-then : (allows : List ℕ → ℕ → List ℕ → List ℕ → Type 0) (first second : List PoolEvent) (p q r : Pooled) (u v w : WireState)
     → Travels allows first p q u v → Travels allows second q r v w → Travels allows (first ++ second) p r u w
 travels-then allows [] second p q r u v w f s = subst (λ (x : Pooled). Travels allows second x r u w) f.0 (subst (λ (y : WireState). Travels allows second q r y w) f.1 s)
 travels-then allows (event ∷ first) second p q r u v w f s = (f.0, f.1, travels-then allows first second f.0.pool q r f.0.wire v w f.2 s)
@@ -26,7 +26,7 @@ lawful-allowed old new w same l = record {
   lively = l.lively;
 }
 
-moves-allowed : (old new : List ℕ → ℕ → List ℕ → List ℕ → Type 0) (event : Event) (p q : Pooled) (v w : WireState) → SameAllowed old new → Moves new event p q v w → Moves old event p q v w
+moves-allowed : (old new : List ℕ → ℕ → List ℕ → List ℕ → Type 0) (event : PoolEvent) (p q : Pooled) (v w : WireState) → SameAllowed old new → Moves new event p q v w → Moves old event p q v w
 moves-allowed old new event p q v w same m = record {
   happens = m.happens;
   suits = m.suits;
@@ -36,7 +36,7 @@ moves-allowed old new event p q v w same m = record {
 }
 
 -- the same replies are allowed at each moment
-pub travels-allowed : (old new : List ℕ → ℕ → List ℕ → List ℕ → Type 0) (events : List Event) (p q : Pooled) (v w : WireState) → SameAllowed old new → Travels new events p q v w → Travels old events p q v w
+pub travels-allowed : (old new : List ℕ → ℕ → List ℕ → List ℕ → Type 0) (events : List PoolEvent) (p q : Pooled) (v w : WireState) → SameAllowed old new → Travels new events p q v w → Travels old events p q v w
 travels-allowed old new [] p q v w same t = t
 travels-allowed old new (event ∷ events) p q v w same t = (t.0, moves-allowed old new event p t.0.pool v t.0.wire same t.1, travels-allowed old new events t.0.pool q t.0.wire w same t.2)
 
@@ -59,6 +59,6 @@ puts-travel allows (ask ∷ asks) p q w h s l =
 
 -- ---- waits
 
-pub waits-more : (events : List Event) → AreWaits events → AreWaits (events ++ Waited ∷ [])
+pub waits-more : (events : List PoolEvent) → AreWaits events → AreWaits (events ++ Waited ∷ [])
 waits-more [] h = (refl, tt)
 waits-more (event ∷ events) h = (h.0, waits-more events h.1)

@@ -24,7 +24,7 @@ use Rattle.join_core.specs.Blocks.{IsBlockSize}
 use Rattle.plan_laws.specs.Servers.{asked_at, server_world, ServersAreWorlds, ServersHaveForms, ServersPagesAreTrue}
 use Rattle.plan_laws.proofs.Plans.{read_asked}
 use Rattle.plan_laws.proofs.Selections.{selection_kept}
-use Rattle.tpf_client.specs.Traffic.{Event, Asked, Came, Waited, Broke}
+use Rattle.tpf_client.specs.Traffic.{PoolEvent, Asked, Came, Waited, Broke}
 use Rattle.tpf_client.specs.Turns.{AreTrue, IsTrueReply}
 use Rattle.tpf_client.specs.Sources.{IsSourceOf, world_sources}
 use Rattle.tpf_client.specs.Offers.{IsVersionOf}
@@ -101,18 +101,18 @@ module _ (given : PagesAreGiven) (answered : AnsweredGivePages) (only : NothingE
       subst (λ (r : Selection). Takes (page_body history v config r (suc k)) address page) is
       (subst (λ (l : List ℕ). Takes l address page) (b.body_is ∙ ap (λ (a : Answer). a.body) g.answer) t)))
 
-  true-event : (served : ℕ → Bool) (version : ℕ) (event : Event) → IsAnswer history config served event → IsTrueReply (IsPageAt (server_world block (version_of history version) config)) (λ address. Some version) event
+  true-event : (served : ℕ → Bool) (version : ℕ) (event : PoolEvent) → IsAnswer history config served event → IsTrueReply (IsPageAt (server_world block (version_of history version) config)) (λ address. Some version) event
   true-event served version (Asked ask) a = tt
   true-event served version (Came ask reply) a = λ page t told. true-page version ask.address reply.body page a.is_body t told
   true-event served version Waited a = tt
   true-event served version (Broke fault) a = tt
 
-  true-events : (served : ℕ → Bool) (version : ℕ) (events : List Event) → AllByRecursion (IsAnswer history config served) events → AreTrue (IsPageAt (server_world block (version_of history version) config)) (λ address. Some version) events
+  true-events : (served : ℕ → Bool) (version : ℕ) (events : List PoolEvent) → AllByRecursion (IsAnswer history config served) events → AreTrue (IsPageAt (server_world block (version_of history version) config)) (λ address. Some version) events
   true-events served version [] a = tt
   true-events served version (event ∷ events) a = (true-event served version event a.0, true-events served version events a.1)
 
   -- the world of the start page's version
-  pub start-world : (served : ℕ → Bool) (address : Address) (body : List ℕ) (page : Page) (events : List Event) → ((version : ℕ) → served version ≡ true → length (version_of history version) < 2 ^ 64) → IsBodyOver history config served address body → Takes body address page
+  pub start-world : (served : ℕ → Bool) (address : Address) (body : List ℕ) (page : Page) (events : List PoolEvent) → ((version : ℕ) → served version ≡ true → length (version_of history version) < 2 ^ 64) → IsBodyOver history config served address body → Takes body address page
       → AllByRecursion (IsAnswer history config served) events
       → (version : ℕ) × IsVersionOf history version × (served version ≡ true) × (page.version ≡ Some version) × IsSourceOf (world_sources block) (server_world block (version_of history version) config) (page.form ∷ []) (λ address. page.version) events
   start-world served address body page events few o t a =

@@ -9,7 +9,7 @@ use Rattle.request_pool.specs.declared.fault.PoolFault.TheVariants as faults
 use Rattle.request_pool.specs.Pools.{Pooled, Ask, held}
 use Rattle.request_pool.specs.Owned.{SuitsWire}
 use Rattle.tpf_client.specs.declared.asks.Arrived.{Arrived}
-use Rattle.tpf_client.specs.Traffic.{Event, Came, Waited, Broke, Moves, Travels, StepWaits, Comes}
+use Rattle.tpf_client.specs.Traffic.{PoolEvent, Came, Waited, Broke, Moves, Travels, StepWaits, Comes}
 use Rattle.tpf_client.specs.Asking.{WaitsSo, Arrives, Stops, ask_of}
 use Rattle.tpf_client.proofs.Traveling.{no-events, one-event, travels-then, travels-allowed, waits-more}
 
@@ -30,7 +30,7 @@ pub so-none : (allows : List ℕ → ℕ → List ℕ → List ℕ → Type 0) (
 so-none allows p w f s = record { before = []; waits = tt; travels = no-events allows p w; others = IsPermutation-refl (held p); no_fault = f; suits = s }
 
 module _ (allows later : List ℕ → ℕ → List ℕ → List ℕ → Type 0) (same : SameAllowed allows later) (p q r : Pooled) (u v w : WireState) where
-  more : (before : List Event) (event : Event) → Travels allows before p q u v → Moves later event q r v w → Travels allows (before ++ event ∷ []) p r u w
+  more : (before : List PoolEvent) (event : PoolEvent) → Travels allows before p q u v → Moves later event q r v w → Travels allows (before ++ event ∷ []) p r u w
   more before event t m = travels-then allows before (event ∷ []) p q r u v w t (travels-allowed allows later (event ∷ []) q r v w same (one-event later event q r v w m))
 
   pub so-waits : WaitsSo allows p q u v → Moves later Waited q r v w → WaitsSo allows p r u w

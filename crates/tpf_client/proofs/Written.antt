@@ -19,7 +19,7 @@ use Rattle.tpf_client.specs.declared.options.Report.{Report}
 use Rattle.tpf_client.specs.declared.fault.ClientFault.{ClientFault}
 use Rattle.tpf_client.specs.declared.fault.ClientFault.TheVariants as faults
 use Rattle.tpf_client.specs.declared.start.StartPages.{StartPages}
-use Rattle.tpf_client.specs.Traffic.{Event, Travels}
+use Rattle.tpf_client.specs.Traffic.{PoolEvent, Travels}
 use Rattle.tpf_client.specs.Causes.{Explains, Versions}
 use Rattle.tpf_client.specs.Told.{told_at}
 use Rattle.tpf_client.specs.Sources.{Sources}
@@ -62,14 +62,14 @@ module _ (allows between-allows : List ℕ → ℕ → List ℕ → List ℕ →
   abbrev most : ℕ
   most = most_over options q (length starts)
 
-  few-of : (later : List Event) → WaitFew behind (length (held mid)) later → WaitFew most (length (held old)) (s.events ++ later)
+  few-of : (later : List PoolEvent) → WaitFew behind (length (held mid)) later → WaitFew most (length (held old)) (s.events ++ later)
   few-of later few =
       let n = length q.patterns * (options.window * length starts) in
       few-then allows most s.events later old mid wire between s.travels s.no_fault (few-more 1 most (length (held old)) s.events (le-max_left 1 n) s.few)
       (few-more n most (length (held mid)) later (le-max_right 1 n)
       (subst (λ (m : ℕ). WaitFew (length q.patterns * (options.window * m)) (length (held mid)) later) (forms-many allows starts pages told old mid wire between t s) few))
 
-  ran-of : (later : List Event) → Travels between-allows later mid new between wire' → SuitsWire new wire' → WaitFew behind (length (held mid)) later → Ran allows most old new wire wire' (s.events ++ later) new
+  ran-of : (later : List PoolEvent) → Travels between-allows later mid new between wire' → SuitsWire new wire' → WaitFew behind (length (held mid)) later → Ran allows most old new wire wire' (s.events ++ later) new
   ran-of later travels on_wire few = record {
     is_pool = refl;
     travels = travels-then allows s.events later old mid new wire between wire' s.travels (travels-allowed allows between-allows later mid new between wire' same travels);
@@ -77,7 +77,7 @@ module _ (allows between-allows : List ℕ → ℕ → List ℕ → List ℕ →
     few = few-of later few;
   }
 
-  asked-behind : (later : List Event) → AsksAt starts later → AsksAt starts (s.events ++ later)
+  asked-behind : (later : List PoolEvent) → AsksAt starts later → AsksAt starts (s.events ++ later)
   asked-behind later a = asks-behind starts pages s.events later s.reads a
 
   all-by : (forms : List Form) (versions : List (Option ℕ)) → forms ≡ forms_of pages → versions ≡ versions_of pages → (report : Report) (rows : List Places) → GathersRest between-allows behind sources q starts forms versions report rows mid new between wire' → Returns (Ran allows most old new wire wire') sources q starts report rows
@@ -188,7 +188,7 @@ nothing-joined allows most sources q starts forms versions budget p w none s = r
 }
 
 -- the same with another fault, which these events explain too
-pub with-fault : (allows : List ℕ → ℕ → List ℕ → List ℕ → Type 0) (most : ℕ) (sources : Sources) (q : QueryData) (starts : List Address) (forms : List Form) (versions : Versions) (budget : ℕ) (fault other : ClientFault) (events : List Event) (rows : List Places) (p p' : Pooled) (w w' : WireState)
+pub with-fault : (allows : List ℕ → ℕ → List ℕ → List ℕ → Type 0) (most : ℕ) (sources : Sources) (q : QueryData) (starts : List Address) (forms : List Form) (versions : Versions) (budget : ℕ) (fault other : ClientFault) (events : List PoolEvent) (rows : List Places) (p p' : Pooled) (w w' : WireState)
     → Explains versions budget other events → JoinsSome allows most sources q starts forms versions budget fault events rows p p' w w' → JoinsSome allows most sources q starts forms versions budget other events rows p p' w w'
 with-fault allows most sources q starts forms versions budget fault other events rows p p' w w' explains j = record { travels = j.travels; on_wire = j.on_wire; explains = explains; asks = j.asks; few = j.few; gives = j.gives }
 
@@ -233,7 +233,7 @@ none-shown allows sources options q starts budget fault old new wire wire' out s
 
 -- ---- what is told of the text alone
 
-module _ (ran : List Event → Pooled → Type 0) (sources : Sources) (q : QueryData) (starts : List Address) where
+module _ (ran : List PoolEvent → Pooled → Type 0) (sources : Sources) (q : QueryData) (starts : List Address) where
   pub result-written : (report : Report) (t u : Option (List ℕ)) → WritesAll ran sources q starts report t u → WritesResult q report.rows t u
   result-written report t u w = record { rows = w.rows; text = w.text; count = w.returns.count }
 

@@ -17,7 +17,7 @@ use Rattle.tpf_client.specs.declared.asks.Arrived.{Arrived}
 use Rattle.tpf_client.specs.declared.asks.Next.{Next}
 use Rattle.tpf_client.specs.declared.asks.Next.TheVariants.{Came, Waited, Idle}
 use Rattle.tpf_client.specs.Traffic as traffic
-use Rattle.tpf_client.specs.Traffic.{Event, AreDistinct, Puts, Moves, Travels, without_fault}
+use Rattle.tpf_client.specs.Traffic.{PoolEvent, AreDistinct, Puts, Moves, Travels, without_fault}
 
 -- one ask was put
 pub record PutsOne (ask : Ask) (old new : Pooled) : Type 0 where
@@ -55,12 +55,12 @@ StepsOn allows (Ok Idle) old new wire wire' = (held old ≡ []) × (new ≡ old)
 StepsOn allows (Err shown) old new wire wire' = (fault : PoolFault) × Moves allows (traffic.Broke fault) old new wire wire' × ((shown ≡ fault) ⊎ (shown ≡ faults.OutOfMemory))
 
 -- these steps waited
-abbrev pub AreWaits : List Event → Type 0
+abbrev pub AreWaits : List PoolEvent → Type 0
 AreWaits events = AllByRecursion (λ event. event ≡ traffic.Waited) events
 
 -- So far each step waited, and all asks are still held.
 pub record WaitsSo (allows : List ℕ → ℕ → List ℕ → List ℕ → Type 0) (old new : Pooled) (wire wire' : WireState) : Type 0 where
-  pub before : List Event
+  pub before : List PoolEvent
   pub waits : AreWaits before
   pub travels : Travels allows before old new wire wire'
   pub others : IsPermutation (held old) (held new)
@@ -69,7 +69,7 @@ pub record WaitsSo (allows : List ℕ → ℕ → List ℕ → List ℕ → Type
 
 -- a reply arrived, after waits
 pub record Arrives (allows : List ℕ → ℕ → List ℕ → List ℕ → Type 0) (arrived : Arrived) (old new : Pooled) (wire wire' : WireState) : Type 0 where
-  pub before : List Event
+  pub before : List PoolEvent
   pub waits : AreWaits before
   pub travels : Travels allows (before ++ traffic.Came (ask_of arrived) arrived.reply ∷ []) old new wire wire'
   pub others : IsPermutation (held old) (ask_of arrived ∷ held new)
@@ -78,7 +78,7 @@ pub record Arrives (allows : List ℕ → ℕ → List ℕ → List ℕ → Type
 
 -- a step ended with a fault, after waits
 pub record Stops (allows : List ℕ → ℕ → List ℕ → List ℕ → Type 0) (shown : PoolFault) (old new : Pooled) (wire wire' : WireState) : Type 0 where
-  pub before : List Event
+  pub before : List PoolEvent
   pub waits : AreWaits before
   pub fault : PoolFault
   pub travels : Travels allows (before ++ traffic.Broke fault ∷ []) old new wire wire'

@@ -27,7 +27,7 @@ use Rattle.tpf_client.specs.declared.options.Options.{Options}
 use Rattle.tpf_client.specs.declared.options.Report.{Report}
 use Rattle.tpf_client.specs.declared.fault.ClientFault.{ClientFault}
 use Rattle.tpf_client.specs.declared.fault.ClientFault.TheVariants as faults
-use Rattle.tpf_client.specs.Traffic.{Event, Travels}
+use Rattle.tpf_client.specs.Traffic.{PoolEvent, Travels}
 use Rattle.tpf_client.specs.Causes.{Explains, Versions}
 use Rattle.tpf_client.specs.Told.{told_at, told_first}
 use Rattle.tpf_client.specs.Starts.{ReadsStarts, AsksStarts, forms_of, versions_of}
@@ -53,7 +53,7 @@ pub record WritesPrefix (q : QueryData) (taken taken' : Option (List ℕ)) : Typ
 -- ---- the evaluation
 
 -- The evaluation of the query gave these rows and is done. No more asks wait at any moment than the most.
-pub record Joins (allows : List ℕ → ℕ → List ℕ → List ℕ → Type 0) (most : ℕ) (sources : Sources) (q : QueryData) (starts : List Address) (forms : List Form) (versions : Versions) (events : List Event) (rows : List Places) (old new : Pooled) (wire wire' : WireState) : Type 0 where
+pub record Joins (allows : List ℕ → ℕ → List ℕ → List ℕ → Type 0) (most : ℕ) (sources : Sources) (q : QueryData) (starts : List Address) (forms : List Form) (versions : Versions) (events : List PoolEvent) (rows : List Places) (old new : Pooled) (wire wire' : WireState) : Type 0 where
   pub travels : Travels allows events old new wire wire'
   pub on_wire : SuitsWire new wire'
   pub asks : AsksAt starts events
@@ -65,7 +65,7 @@ pub record Joins (allows : List ℕ → ℕ → List ℕ → List ℕ → Type 0
   pub gives : (source : sources.Source) → IsSourceOf sources source forms versions events → GivesSolutions sources source q rows events
 
 -- The evaluation of the query gave these rows, and then there was a fault. No more asks wait at any moment than the most.
-pub record JoinsSome (allows : List ℕ → ℕ → List ℕ → List ℕ → Type 0) (most : ℕ) (sources : Sources) (q : QueryData) (starts : List Address) (forms : List Form) (versions : Versions) (budget : ℕ) (fault : ClientFault) (events : List Event) (rows : List Places) (old new : Pooled) (wire wire' : WireState) : Type 0 where
+pub record JoinsSome (allows : List ℕ → ℕ → List ℕ → List ℕ → Type 0) (most : ℕ) (sources : Sources) (q : QueryData) (starts : List Address) (forms : List Form) (versions : Versions) (budget : ℕ) (fault : ClientFault) (events : List PoolEvent) (rows : List Places) (old new : Pooled) (wire wire' : WireState) : Type 0 where
   pub travels : Travels allows events old new wire wire'
   pub on_wire : SuitsWire new wire'
   pub explains : Explains versions budget fault events
@@ -76,7 +76,7 @@ pub record JoinsSome (allows : List ℕ → ℕ → List ℕ → List ℕ → Ty
 -- ---- the wire
 
 -- the events of a call, from a pool that holds nothing until its links are closed
-pub record RunsPool (allows : List ℕ → ℕ → List ℕ → List ℕ → Type 0) (options : Options) (since now : WireState) (events : List Event) (pool : Pooled) : Type 0 where
+pub record RunsPool (allows : List ℕ → ℕ → List ℕ → List ℕ → Type 0) (options : Options) (since now : WireState) (events : List PoolEvent) (pool : Pooled) : Type 0 where
   pub between : WireState
   pub travels : Travels allows events (empty_pool options.links options.retries options.budget options.max_body) pool since between
   pub on_wire : SuitsWire pool between
@@ -84,22 +84,22 @@ pub record RunsPool (allows : List ℕ → ℕ → List ℕ → List ℕ → Typ
 
 -- What happened in a call: its events, one after another, each ask among them for the authority of a start; and the pool at their end.
 pub record Happened (allows : List ℕ → ℕ → List ℕ → List ℕ → Type 0) (options : Options) (starts : List Address) (since now : WireState) : Type 0 where
-  pub events : List Event
+  pub events : List PoolEvent
   pub pool : Pooled
   pub runs : RunsPool allows options since now events pool
   pub asks : AsksAt starts events
 
 -- these are the events, and this is the pool
-pub record AreThese (events : List Event) (pool : Pooled) (events' : List Event) (pool' : Pooled) : Type 0 where
+pub record AreThese (events : List PoolEvent) (pool : Pooled) (events' : List PoolEvent) (pool' : Pooled) : Type 0 where
   pub events_are : events' ≡ events
   pub pool_is : pool' ≡ pool
 
 -- ---- a call on its wire, and the text; `ran` says which events there were, and which pool stood at their end
 
 -- A call that gave these rows. Each address that it asked has the authority of a start, and each was answered by a page of the version that the start page of its server told.
-pub record Returns (ran : List Event → Pooled → Type 0) (sources : Sources) (q : QueryData) (starts : List Address) (report : Report) (rows : List Places) : Type 0 where
-  pub first : List Event
-  pub later : List Event
+pub record Returns (ran : List PoolEvent → Pooled → Type 0) (sources : Sources) (q : QueryData) (starts : List Address) (report : Report) (rows : List Places) : Type 0 where
+  pub first : List PoolEvent
+  pub later : List PoolEvent
   pub pool : Pooled
   pub runs : ran (first ++ later) pool
   pub told : List Page
@@ -115,14 +115,14 @@ pub record Returns (ran : List Event → Pooled → Type 0) (sources : Sources) 
   pub gives : (source : sources.Source) → IsSourceOf sources source (forms_of told) (told_at starts (versions_of told)) later → GivesSolutions sources source q rows later
 
 -- A call that wrote the text of these rows.
-pub record WritesAll (ran : List Event → Pooled → Type 0) (sources : Sources) (q : QueryData) (starts : List Address) (report : Report) (taken taken' : Option (List ℕ)) : Type 0 where
+pub record WritesAll (ran : List PoolEvent → Pooled → Type 0) (sources : Sources) (q : QueryData) (starts : List Address) (report : Report) (taken taken' : Option (List ℕ)) : Type 0 where
   pub rows : List Places
   pub returns : Returns ran sources q starts report rows
   pub text : Appends taken taken' (result_text q rows)
 
 -- A call that ended with a fault before the start pages were read: nothing but the first starts was asked, and nothing was written.
-pub record EndsBefore (ran : List Event → Pooled → Type 0) (starts : List Address) (budget : ℕ) (fault : ClientFault) (taken taken' : Option (List ℕ)) : Type 0 where
-  pub events : List Event
+pub record EndsBefore (ran : List PoolEvent → Pooled → Type 0) (starts : List Address) (budget : ℕ) (fault : ClientFault) (taken taken' : Option (List ℕ)) : Type 0 where
+  pub events : List PoolEvent
   pub pool : Pooled
   pub runs : ran events pool
   pub asked : AsksStarts starts events
@@ -130,9 +130,9 @@ pub record EndsBefore (ran : List Event → Pooled → Type 0) (starts : List Ad
   pub nothing : taken' ≡ taken
 
 -- A call that ended with a fault behind the start pages: of what stands in front of the rows and of the rows that it gave a front was written.
-pub record EndsBehind (ran : List Event → Pooled → Type 0) (sources : Sources) (q : QueryData) (starts : List Address) (budget : ℕ) (fault : ClientFault) (taken taken' : Option (List ℕ)) : Type 0 where
-  pub first : List Event
-  pub later : List Event
+pub record EndsBehind (ran : List PoolEvent → Pooled → Type 0) (sources : Sources) (q : QueryData) (starts : List Address) (budget : ℕ) (fault : ClientFault) (taken taken' : Option (List ℕ)) : Type 0 where
+  pub first : List PoolEvent
+  pub later : List PoolEvent
   pub pool : Pooled
   pub runs : ran (first ++ later) pool
   pub told : List Page
@@ -144,9 +144,9 @@ pub record EndsBehind (ran : List Event → Pooled → Type 0) (sources : Source
   pub text : AppendsPrefix taken taken' (front_text q ++ rows_text q false rows)
 
 -- A call that gave all its rows and could not write the text to its end.
-pub record EndsAtEnd (ran : List Event → Pooled → Type 0) (sources : Sources) (q : QueryData) (starts : List Address) (budget : ℕ) (fault : ClientFault) (taken taken' : Option (List ℕ)) : Type 0 where
-  pub first : List Event
-  pub later : List Event
+pub record EndsAtEnd (ran : List PoolEvent → Pooled → Type 0) (sources : Sources) (q : QueryData) (starts : List Address) (budget : ℕ) (fault : ClientFault) (taken taken' : Option (List ℕ)) : Type 0 where
+  pub first : List PoolEvent
+  pub later : List PoolEvent
   pub pool : Pooled
   pub runs : ran (first ++ later) pool
   pub told : List Page
@@ -157,13 +157,13 @@ pub record EndsAtEnd (ran : List Event → Pooled → Type 0) (sources : Sources
   pub gives : (source : sources.Source) → IsSourceOf sources source (forms_of told) (told_at starts (versions_of told)) later → GivesSolutions sources source q rows later
   pub text : AppendsPrefix taken taken' (result_text q rows)
 
-pub data WritesSome (ran : List Event → Pooled → Type 0) (sources : Sources) (q : QueryData) (starts : List Address) (budget : ℕ) (fault : ClientFault) (taken taken' : Option (List ℕ)) : Type 0 where
+pub data WritesSome (ran : List PoolEvent → Pooled → Type 0) (sources : Sources) (q : QueryData) (starts : List Address) (budget : ℕ) (fault : ClientFault) (taken taken' : Option (List ℕ)) : Type 0 where
   Before : EndsBefore ran starts budget fault taken taken' → WritesSome ran sources q starts budget fault taken taken'
   Behind : EndsBehind ran sources q starts budget fault taken taken' → WritesSome ran sources q starts budget fault taken taken'
   AtEnd : EndsAtEnd ran sources q starts budget fault taken taken' → WritesSome ran sources q starts budget fault taken taken'
 
 -- the events between a pool and its wire, in which no more asks wait at any moment than the most
-pub record Ran (allows : List ℕ → ℕ → List ℕ → List ℕ → Type 0) (most : ℕ) (old new : Pooled) (wire wire' : WireState) (events : List Event) (pool : Pooled) : Type 0 where
+pub record Ran (allows : List ℕ → ℕ → List ℕ → List ℕ → Type 0) (most : ℕ) (old new : Pooled) (wire wire' : WireState) (events : List PoolEvent) (pool : Pooled) : Type 0 where
   pub is_pool : pool ≡ new
   pub travels : Travels allows events old new wire wire'
   pub on_wire : SuitsWire new wire'
@@ -185,7 +185,7 @@ most_asked options q = max 1 (length q.patterns * options.window)
 
 -- All rows were written.
 pub record WritesRest (allows : List ℕ → ℕ → List ℕ → List ℕ → Type 0) (most : ℕ) (sources : Sources) (q : QueryData) (starts : List Address) (forms : List Form) (versions : List (Option ℕ)) (report : Report) (old new : Pooled) (wire wire' : WireState) (taken taken' : Option (List ℕ)) : Type 0 where
-  pub events : List Event
+  pub events : List PoolEvent
   pub rows : List Places
   pub joins : Joins allows most sources q starts forms (told_at starts versions) events rows old new wire wire'
   pub is_version : report.version ≡ sources.reported (told_first versions)
@@ -195,22 +195,22 @@ pub record WritesRest (allows : List ℕ → ℕ → List ℕ → List ℕ → T
 
 -- All rows were gathered.
 pub record GathersRest (allows : List ℕ → ℕ → List ℕ → List ℕ → Type 0) (most : ℕ) (sources : Sources) (q : QueryData) (starts : List Address) (forms : List Form) (versions : List (Option ℕ)) (report : Report) (rows : List Places) (old new : Pooled) (wire wire' : WireState) : Type 0 where
-  pub events : List Event
+  pub events : List PoolEvent
   pub joins : Joins allows most sources q starts forms (told_at starts versions) events rows old new wire wire'
   pub is_version : report.version ≡ sources.reported (told_first versions)
   pub requests : report.requests ≡ new.started
   pub count : report.rows ≡ counted_by (length rows) 0
 
 pub data WritesLess (allows : List ℕ → ℕ → List ℕ → List ℕ → Type 0) (most : ℕ) (sources : Sources) (q : QueryData) (starts : List Address) (forms : List Form) (versions : Versions) (budget : ℕ) (fault : ClientFault) (old new : Pooled) (wire wire' : WireState) (taken taken' : Option (List ℕ)) : Type 0 where
-  PartOf : (events : List Event) (rows : List Places) → JoinsSome allows most sources q starts forms versions budget fault events rows old new wire wire' → AppendsPrefix taken taken' (front_text q ++ rows_text q false rows)
+  PartOf : (events : List PoolEvent) (rows : List Places) → JoinsSome allows most sources q starts forms versions budget fault events rows old new wire wire' → AppendsPrefix taken taken' (front_text q ++ rows_text q false rows)
       → WritesLess allows most sources q starts forms versions budget fault old new wire wire' taken taken'
-  WholeOf : (events : List Event) (rows : List Places) → Joins allows most sources q starts forms versions events rows old new wire wire' → Explains versions budget fault events → AppendsPrefix taken taken' (result_text q rows)
+  WholeOf : (events : List PoolEvent) (rows : List Places) → Joins allows most sources q starts forms versions events rows old new wire wire' → Explains versions budget fault events → AppendsPrefix taken taken' (result_text q rows)
       → WritesLess allows most sources q starts forms versions budget fault old new wire wire' taken taken'
 
 -- ---- causes
 
 -- These bytes were received in reply to the request for an address that was asked in the call, on a link that was given in it.
-pub record IsReceived (options : Options) (events : List Event) (since now : WireState) (received : List ℕ) : Type 0 where
+pub record IsReceived (options : Options) (events : List PoolEvent) (since now : WireState) (received : List ℕ) : Type 0 where
   pub ask : Ask
   pub asked : Contains (asked_in events) ask
   pub on : RepliedOn options.max_body ask.address received now
@@ -218,20 +218,20 @@ pub record IsReceived (options : Options) (events : List Event) (since now : Wir
   pub below : on.k < now.given
 
 -- The link ended, and what was received is no whole reply at its end.
-pub record IsCutShort (options : Options) (events : List Event) (since now : WireState) (received : List ℕ) : Type 0 where
+pub record IsCutShort (options : Options) (events : List PoolEvent) (since now : WireState) (received : List ℕ) : Type 0 where
   pub is_received : IsReceived options events since now received
   pub ended : Holds (now.links is_received.on.k).ended true
   pub more : reply_of received true options.max_body ≡ replies.More
 
 -- What was received has this fault.
-pub record IsRefusedReply (options : Options) (events : List Event) (since now : WireState) (fault : ReplyFault) (received : List ℕ) : Type 0 where
+pub record IsRefusedReply (options : Options) (events : List PoolEvent) (since now : WireState) (fault : ReplyFault) (received : List ℕ) : Type 0 where
   pub is_received : IsReceived options events since now received
   pub why : replies.ReplyFault
   pub is_fault : fault ≡ shown_fault why
   pub bad : reply_of received false options.max_body ≡ replies.Bad why
 
 -- This is the body of a whole reply, which was received. Where the reply is whole at its end alone the link ended.
-pub record IsReplyBody (options : Options) (events : List Event) (since now : WireState) (body : List ℕ) : Type 0 where
+pub record IsReplyBody (options : Options) (events : List PoolEvent) (since now : WireState) (body : List ℕ) : Type 0 where
   pub received : List ℕ
   pub is_received : IsReceived options events since now received
   pub at_end : Bool
@@ -241,12 +241,12 @@ pub record IsReplyBody (options : Options) (events : List Event) (since now : Wi
   pub ended : at_end ≡ true → Holds (now.links is_received.on.k).ended true
 
 -- The body of a whole reply is for this reason no page of the address that was asked.
-pub record IsNoPageOf (options : Options) (events : List Event) (since now : WireState) (fault : PageFault) (body : List ℕ) : Type 0 where
+pub record IsNoPageOf (options : Options) (events : List PoolEvent) (since now : WireState) (fault : PageFault) (body : List ℕ) : Type 0 where
   pub replied : IsReplyBody options events since now body
   pub why : Faults body replied.is_received.ask.address fault
 
 -- The body of a whole reply is a page of the address that was asked, and tells another version than the first.
-pub record IsOtherVersion (options : Options) (events : List Event) (since now : WireState) (first other : Option ℕ) : Type 0 where
+pub record IsOtherVersion (options : Options) (events : List PoolEvent) (since now : WireState) (first other : Option ℕ) : Type 0 where
   pub body : List ℕ
   pub replied : IsReplyBody options events since now body
   pub page : Page
@@ -255,7 +255,7 @@ pub record IsOtherVersion (options : Options) (events : List Event) (since now :
   pub differs : first ≢ other
 
 -- What each fault shows of the wire and of what came: the faults rose; so many waits followed one another, which is never so over a lively wire; a link was cut; a reply is refused; a body is no page; a page tells another version; as many exchanges were started as the budget says.
-abbrev pub IsCause : Options → List Event → Pooled → WireState → WireState → ClientFault → Type 0
+abbrev pub IsCause : Options → List PoolEvent → Pooled → WireState → WireState → ClientFault → Type 0
 IsCause options events pool since now faults.Exchange = Rose since.faults now.faults
 IsCause options events pool since now faults.Stalled = (1000 ≤ now.idle) × (since.nature.lively ≡ true → ⊥)
 IsCause options events pool since now (faults.Cut received) = IsCutShort options events since now received

@@ -11,7 +11,7 @@ use Rattle.request_pool.specs.Pools.{Ask}
 use Rattle.tpf_client.specs.declared.fault.ClientFault.{ClientFault}
 use Rattle.tpf_client.specs.declared.fault.ClientFault.TheVariants as faults
 use Rattle.tpf_client.specs.declared.asks.Arrived.{Arrived}
-use Rattle.tpf_client.specs.Traffic.{Event, Came, Broke, EndsWith}
+use Rattle.tpf_client.specs.Traffic.{PoolEvent, Came, Broke, EndsWith}
 
 -- a fault of a pool as that of a call with a budget
 abbrev pub shown_as : ℕ → PoolFault → ClientFault
@@ -23,7 +23,7 @@ shown_as budget pool.Budget = faults.Budget budget
 shown_as budget pool.OutOfMemory = faults.OutOfMemory
 
 -- the last reply that came has this body, which is no page of its address for this reason
-pub record IsNoPage (fault : PageFault) (body : List ℕ) (events : List Event) : Type 0 where
+pub record IsNoPage (fault : PageFault) (body : List ℕ) (events : List PoolEvent) : Type 0 where
   pub ask : Ask
   pub reply : Reply
   pub last : EndsWith (Came ask reply) events
@@ -35,7 +35,7 @@ abbrev pub Versions : Type 0
 Versions = Address → Option ℕ
 
 -- the last reply that came is a page of another version than the start page of its server told, which is the first
-pub record IsChanged (versions : Versions) (first other : Option ℕ) (events : List Event) : Type 0 where
+pub record IsChanged (versions : Versions) (first other : Option ℕ) (events : List PoolEvent) : Type 0 where
   pub ask : Ask
   pub reply : Reply
   pub last : EndsWith (Came ask reply) events
@@ -46,7 +46,7 @@ pub record IsChanged (versions : Versions) (first other : Option ℕ) (events : 
   pub differs : first ≢ other
 
 -- what each fault rests on; the versions are those of the start pages, where these were read
-abbrev pub Explains : Versions → ℕ → ClientFault → List Event → Type 0
+abbrev pub Explains : Versions → ℕ → ClientFault → List PoolEvent → Type 0
 Explains versions budget faults.Exchange events = EndsWith (Broke pool.Exchange) events
 Explains versions budget faults.Stalled events = EndsWith (Broke pool.Stalled) events
 Explains versions budget (faults.Cut received) events = EndsWith (Broke (pool.Cut received)) events

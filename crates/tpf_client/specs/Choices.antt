@@ -7,7 +7,7 @@ use Rattle.request_pool.specs.Pools.{Pooled}
 use Rattle.join_core.specs.Evaluations.{HasHome}
 use Rattle.tpf_client.specs.declared.options.Options.{Options}
 use Rattle.tpf_client.specs.declared.fault.ClientFault.{ClientFault}
-use Rattle.tpf_client.specs.Traffic.{Event}
+use Rattle.tpf_client.specs.Traffic.{PoolEvent}
 use Rattle.tpf_client.specs.Told.{told_at}
 use Rattle.tpf_client.specs.Starts.{versions_of}
 use Rattle.tpf_client.specs.Sources.{Sources}
@@ -32,7 +32,7 @@ pub record HasTold (offer : Offer) (starts : List Address) (told : List (Option 
 
 -- this holds of a choice that the start pages told, and of each where the call ended before these were read
 abbrev pub OfToldChoice :
-    (ran : List Event → Pooled → Type 0) (sources : Sources) (q : QueryData) (starts : List Address) (budget : ℕ) (fault : ClientFault)
+    (ran : List PoolEvent → Pooled → Type 0) (sources : Sources) (q : QueryData) (starts : List Address) (budget : ℕ) (fault : ClientFault)
     (taken taken' : Option (List ℕ)) (offer : Offer) → WritesSome ran sources q starts budget fault taken taken' → (offer.Choice → Type 0) → Type 0
 OfToldChoice ran sources q starts budget fault taken taken' offer (Before e) holds = (choice : offer.Choice) → offer.IsChoice choice → holds choice
 OfToldChoice ran sources q starts budget fault taken taken' offer (Behind e) holds =
@@ -64,7 +64,7 @@ pub record FailsByChoice (Started : ℕ → Type 0) (offer : Offer) (options : O
   pub alive : since.nature.lively ≡ true → FailsAlive Started offer options fault since now choice
 
 -- A call that ended with this fault, after so many requests were started: over honest other ends all of that is said of one choice, the one that its start pages told, and of each where they were not read.
-pub record FailsOverOne (ran : List Event → Pooled → Type 0) (started : ℕ) (allows : List ℕ → ℕ → List ℕ → List ℕ → Type 0) (ends : Ends) (options : Options) (sources : Sources) (q : QueryData) (starts : List Address) (fault : ClientFault) (since now : WireState) (taken taken' : Option (List ℕ)) : Type 0 where
+pub record FailsOverOne (ran : List PoolEvent → Pooled → Type 0) (started : ℕ) (allows : List ℕ → ℕ → List ℕ → List ℕ → Type 0) (ends : Ends) (options : Options) (sources : Sources) (q : QueryData) (starts : List Address) (fault : ClientFault) (since now : WireState) (taken taken' : Option (List ℕ)) : Type 0 where
   pub some : WritesSome ran sources q starts options.budget fault taken taken'
   pub over : OverEnds ends allows since (λ holder.
       OfToldChoice ran sources q starts options.budget fault taken taken' (ends.offer holder) some

@@ -9,7 +9,7 @@ use Rattle.request_pool.specs.Pools.{Pooled}
 use Rattle.tpf_client.specs.declared.options.Options.{Options}
 use Rattle.tpf_client.specs.declared.options.Report.{Report}
 use Rattle.tpf_client.specs.declared.fault.ClientFault.{ClientFault}
-use Rattle.tpf_client.specs.Traffic.{Event}
+use Rattle.tpf_client.specs.Traffic.{PoolEvent}
 use Rattle.tpf_client.specs.Sources.{Sources}
 use Rattle.tpf_client.specs.Ends.{Ends}
 use Rattle.tpf_client.specs.Calls.{AreThese, Returns, WritesAll, WritesSome}
@@ -35,7 +35,7 @@ pub record GivesEnded {A : Type 0} (allows : List ℕ → ℕ → List ℕ → L
 -- ---- over whoever may hold the data
 
 -- A call that ended with a fault, and shows all rows that it gave; the sink's faults were counted before and after it. What is said of it over honest other ends is said of one choice of what they hold.
-pub record FailsShown (ran : List Event → Pooled → Type 0) (started : ℕ) (allows : List ℕ → ℕ → List ℕ → List ℕ → Type 0) (ends : Ends) (options : Options) (sources : Sources) (q : QueryData) (starts : List Address) (fault : ClientFault) (since now : WireState) (before after : ℕ) (taken taken' : Option (List ℕ)) : Type 0 where
+pub record FailsShown (ran : List PoolEvent → Pooled → Type 0) (started : ℕ) (allows : List ℕ → ℕ → List ℕ → List ℕ → Type 0) (ends : Ends) (options : Options) (sources : Sources) (q : QueryData) (starts : List Address) (fault : ClientFault) (since now : WireState) (before after : ℕ) (taken taken' : Option (List ℕ)) : Type 0 where
   pub fails : FailsOverOne ran started allows ends options sources q starts fault since now taken taken'
   pub shown : ShowsGiven ran sources q starts options.budget fault before after taken taken' fails.some
 

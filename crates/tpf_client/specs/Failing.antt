@@ -8,7 +8,7 @@ use Rattle.pool_laws.specs.Requested.{LinkRequests, TellsRequests, count_sent, c
 use Rattle.tpf_client.specs.declared.options.Options.{Options}
 use Rattle.tpf_client.specs.declared.fault.ClientFault.{ClientFault}
 use Rattle.tpf_client.specs.declared.fault.ClientFault.TheVariants as faults
-use Rattle.tpf_client.specs.Traffic.{Event}
+use Rattle.tpf_client.specs.Traffic.{PoolEvent}
 use Rattle.tpf_client.specs.Turns.{asked_in}
 use Rattle.tpf_client.specs.Offers.{Offer}
 use Rattle.tpf_client.specs.Requests.{tries_of}
@@ -55,7 +55,7 @@ abbrev pub SpendsRequests : Options → WireState → WireState → Type 0
 SpendsRequests options since now = Spends options.max_body options.budget since now
 
 -- In these events just as many requests were started as the budget says, and fewer than the asks may be tried.
-pub record SpendsTries (options : Options) (events : List Event) (pool : Pooled) : Type 0 where
+pub record SpendsTries (options : Options) (events : List PoolEvent) (pool : Pooled) : Type 0 where
   pub spent : pool.started ≡ options.budget
   pub tries : options.budget < (options.retries + 1) * length (asked_in events)
 

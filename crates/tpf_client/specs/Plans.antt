@@ -19,7 +19,6 @@ use Rattle.http_ends.specs.Requests.{asks, request_for}
 use Rattle.pool_laws.specs.Honest.{IsAnsweredByAll}
 use Rattle.fragment_page.specs.declared.page.Page.{Page}
 use Rattle.control_reader.specs.Takes.{Takes}
-use Rattle.request_pool.specs.Pools.{Pooled}
 use Rattle.pool_laws.specs.Answers.{HasLongBody}
 use Rattle.pool_laws.specs.Provoking.{SparesWire}
 use Rattle.pool_laws.specs.Sending.{SendsFor}
@@ -27,8 +26,6 @@ use Rattle.tpf_client.specs.declared.options.Options.{Options}
 use Rattle.tpf_client.specs.declared.options.Report.{Report}
 use Rattle.tpf_client.specs.declared.fault.ClientFault.{ClientFault}
 use Rattle.tpf_client.specs.declared.fault.ClientFault.TheVariants as faults
-use Rattle.tpf_client.specs.Traffic.{Event}
-use Rattle.tpf_client.specs.Calls.{RunsPool}
 use Rattle.tpf_client.specs.Offers.{Publisher, Offer, IsVersionOf}
 use Rattle.tpf_client.specs.Honest.{IsHonestWire}
 use Rattle.tpf_client.specs.Requests.{DialsAtMost, GivesAtMost}
@@ -119,13 +116,6 @@ pub record HasFewerPages (p : Publisher) (address : Address) (version other : �
   pub is_past : selected_last (version_of p.history other) selection p.config.page_size < page
 
 -- ---- how many requests there are
-
--- The events of a call, by which so many requests were started.
-pub record StartedIn (allows : List ℕ → ℕ → List ℕ → List ℕ → Type 0) (options : Options) (since now : WireState) (started : ℕ) : Type 0 where
-  pub events : List Event
-  pub pool : Pooled
-  pub runs : RunsPool allows options since now events pool
-  pub is_started : pool.started ≡ started
 
 -- No more requests were started, dials made and links given than one of the choices has addresses to ask for and the wire's faults rose; `Started` says which number is that of the requests.
 pub record CountsRises (Started : ℕ → Type 0) (offer : Offer) (since now : WireState) : Type 0 where

@@ -17,7 +17,7 @@ use Rattle.pool_laws.specs.Requested.{EmptyPoolsRequested, PutsRequested, Faults
 use Rattle.request_pool.specs.Pools.{Pooled}
 use Rattle.tpf_client.specs.declared.options.Options.{Options}
 use Rattle.tpf_client.specs.declared.options.Report.{Report}
-use Rattle.tpf_client.specs.Traffic.{Event}
+use Rattle.tpf_client.specs.Traffic.{PoolEvent}
 use Rattle.tpf_client.specs.Turns.{asked_in, answered_in}
 use Rattle.tpf_client.specs.Offers.{Offer}
 
@@ -45,7 +45,7 @@ pub record MovesOn (since now : WireState) : Type 0 where
 -- ---- answers
 
 -- In these events each ask was answered; so many requests were started.
-pub record AnswersAll (options : Options) (requests : ℕ) (events : List Event) (pool : Pooled) : Type 0 where
+pub record AnswersAll (options : Options) (requests : ℕ) (events : List PoolEvent) (pool : Pooled) : Type 0 where
   pub answered : IsPermutation (asked_in events) (answered_in events)
   pub started : pool.started ≡ requests
   pub few : requests ≤ (options.retries + 1) * length (asked_in events)

@@ -11,7 +11,7 @@ use Rattle.bgp_core.specs.Solutions.{Places}
 use Rattle.result_json.specs.Pieces.{front_text, rows_text}
 use Rattle.request_pool.specs.Pools.{Pooled}
 use Rattle.tpf_client.specs.declared.fault.ClientFault.{ClientFault}
-use Rattle.tpf_client.specs.Traffic.{Event}
+use Rattle.tpf_client.specs.Traffic.{PoolEvent}
 use Rattle.tpf_client.specs.Causes.{IsLocal, Versions}
 use Rattle.tpf_client.specs.Sources.{Sources}
 use Rattle.tpf_client.specs.Calls.{WritesLess, PartOf, WholeOf, WritesSome, Before, Behind, AtEnd}
@@ -21,13 +21,13 @@ abbrev pub ShowsRows : ClientFault → ℕ → ℕ → QueryData → List Places
 ShowsRows fault before now q rows taken taken' = (IsLocal fault → ⊥) → (Rose before now → ⊥) → Appends taken taken' (front_text q ++ rows_text q false rows)
 
 -- A call that ended with a fault shows all rows that it gave: none before the start pages were read, and all of them behind these. Where it had given its last row the fault is the sink's or want of memory.
-abbrev pub ShowsGiven : (ran : List Event → Pooled → Type 0) (sources : Sources) (q : QueryData) (starts : List Address) (budget : ℕ) (fault : ClientFault) (before now : ℕ) (taken taken' : Option (List ℕ)) → WritesSome ran sources q starts budget fault taken taken' → Type 0
+abbrev pub ShowsGiven : (ran : List PoolEvent → Pooled → Type 0) (sources : Sources) (q : QueryData) (starts : List Address) (budget : ℕ) (fault : ClientFault) (before now : ℕ) (taken taken' : Option (List ℕ)) → WritesSome ran sources q starts budget fault taken taken' → Type 0
 ShowsGiven ran sources q starts budget fault before now taken taken' (Before e) = Unit {0}
 ShowsGiven ran sources q starts budget fault before now taken taken' (Behind e) = ShowsRows fault before now q e.rows taken taken'
 ShowsGiven ran sources q starts budget fault before now taken taken' (AtEnd e) = IsLocal fault
 
 -- A call that ended with a fault wrote a front of the text, and shows all rows that it gave.
-pub record WritesShown (ran : List Event → Pooled → Type 0) (sources : Sources) (q : QueryData) (starts : List Address) (budget : ℕ) (fault : ClientFault) (out out' : SinkState) : Type 0 where
+pub record WritesShown (ran : List PoolEvent → Pooled → Type 0) (sources : Sources) (q : QueryData) (starts : List Address) (budget : ℕ) (fault : ClientFault) (out out' : SinkState) : Type 0 where
   pub some : WritesSome ran sources q starts budget fault out.taken out'.taken
   pub shown : ShowsGiven ran sources q starts budget fault out.faults out'.faults out.taken out'.taken some
 

@@ -8,7 +8,7 @@ use Rattle.bgp_core.specs.Queries.{QueryData}
 use Rattle.bgp_core.specs.Solutions.{Places}
 use Rattle.join_core.specs.Beginnings.{FitsWorld, world_rows, world_plan, world_reported}
 use Rattle.join_core.specs.Worlds.{World, IsPageAt}
-use Rattle.tpf_client.specs.Traffic.{Event}
+use Rattle.tpf_client.specs.Traffic.{PoolEvent}
 use Rattle.tpf_client.specs.Causes.{Versions}
 use Rattle.tpf_client.specs.Turns.{AreTrue, asked_in, address_of}
 
@@ -35,17 +35,17 @@ sources_of Source fits is_true rows plan reported block = record {
 }
 
 -- a source of these forms, for which all pages are true that came
-pub record IsSourceOf (sources : Sources) (source : sources.Source) (forms : List Form) (versions : Versions) (events : List Event) : Type 0 where
+pub record IsSourceOf (sources : Sources) (source : sources.Source) (forms : List Form) (versions : Versions) (events : List PoolEvent) : Type 0 where
   pub fits : sources.Fits source forms
   pub pages : AreTrue (sources.is_true source) versions events
 
 -- Where all pages that came are true for a source, the rows are its solutions, and its plan was asked.
-pub record GivesSolutions (sources : Sources) (source : sources.Source) (q : QueryData) (rows : List Places) (events : List Event) : Type 0 where
+pub record GivesSolutions (sources : Sources) (source : sources.Source) (q : QueryData) (rows : List Places) (events : List PoolEvent) : Type 0 where
   pub rows_are : IsPermutation (sources.rows source q) rows
   pub plan_is : IsPermutation (sources.plan source q) (map address_of (asked_in events))
 
 -- a part of that
-pub record GivesSome (sources : Sources) (source : sources.Source) (q : QueryData) (rows : List Places) (events : List Event) : Type 0 where
+pub record GivesSome (sources : Sources) (source : sources.Source) (q : QueryData) (rows : List Places) (events : List PoolEvent) : Type 0 where
   pub more : List Places
   pub rows_are : IsPermutation (sources.rows source q) (rows ++ more)
   pub rest : List Address

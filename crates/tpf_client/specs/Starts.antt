@@ -11,7 +11,7 @@ use Rattle.request_pool.specs.Pools.{Pooled, Ask, held}
 use Rattle.request_pool.specs.Owned.{SuitsWire}
 use Rattle.tpf_client.specs.declared.fault.ClientFault.{ClientFault}
 use Rattle.tpf_client.specs.declared.start.StartPages.{StartPages}
-use Rattle.tpf_client.specs.Traffic.{Event, Came, Travels, EndsWith}
+use Rattle.tpf_client.specs.Traffic.{PoolEvent, Came, Travels, EndsWith}
 use Rattle.tpf_client.specs.Causes.{Explains, Versions}
 use Rattle.tpf_client.specs.Turns.{ArePages, WaitFew, asked_in}
 
@@ -20,7 +20,7 @@ abbrev pub start_ask : Address → Ask
 start_ask start = record { ticket = 2 ^ 64 - 1; address = start }
 
 -- The page of a start came by the last of these events, its form has the authority of the start, and nothing else was asked.
-pub record ReadsStart (start : Address) (page : Page) (events : List Event) : Type 0 where
+pub record ReadsStart (start : Address) (page : Page) (events : List PoolEvent) : Type 0 where
   pub asked : asked_in events ≡ start_ask start ∷ []
   pub reply : Reply
   pub last : EndsWith (Came (start_ask start) reply) events
@@ -29,14 +29,14 @@ pub record ReadsStart (start : Address) (page : Page) (events : List Event) : Ty
   pub pages : ArePages (λ address. page.version) events
 
 -- so with each of several, one after another
-abbrev pub ReadsStarts : List Address → List Page → List Event → Type 0
+abbrev pub ReadsStarts : List Address → List Page → List PoolEvent → Type 0
 ReadsStarts [] [] events = events ≡ []
 ReadsStarts [] (page ∷ pages) events = ⊥
 ReadsStarts (start ∷ starts) [] events = ⊥
-ReadsStarts (start ∷ starts) (page ∷ pages) events = (first : List Event) × (later : List Event) × (events ≡ first ++ later) × ReadsStart start page first × ReadsStarts starts pages later
+ReadsStarts (start ∷ starts) (page ∷ pages) events = (first : List PoolEvent) × (later : List PoolEvent) × (events ≡ first ++ later) × ReadsStart start page first × ReadsStarts starts pages later
 
 -- the first of these starts were asked, and nothing else
-pub record AsksStarts (starts : List Address) (events : List Event) : Type 0 where
+pub record AsksStarts (starts : List Address) (events : List PoolEvent) : Type 0 where
   pub first : List Address
   pub later : List Address
   pub starts_are : starts ≡ first ++ later
@@ -52,7 +52,7 @@ versions_of pages = map (λ page. page.version) pages
 
 -- the start page came, these were asked before, and nothing is held
 pub record HasStart (allows : List ℕ → ℕ → List ℕ → List ℕ → Type 0) (start : Address) (asked : List Ask) (page : Page) (old new : Pooled) (wire wire' : WireState) : Type 0 where
-  pub events : List Event
+  pub events : List PoolEvent
   pub travels : Travels allows events old new wire wire'
   pub reply : Reply
   pub last : EndsWith (Came (start_ask start) reply) events
@@ -65,7 +65,7 @@ pub record HasStart (allows : List ℕ → ℕ → List ℕ → List ℕ → Typ
 
 -- it did not, and these were asked or nothing
 pub record HasNoStart (allows : List ℕ → ℕ → List ℕ → List ℕ → Type 0) (start : Address) (asked : List Ask) (budget : ℕ) (fault : ClientFault) (old new : Pooled) (wire wire' : WireState) : Type 0 where
-  pub events : List Event
+  pub events : List PoolEvent
   pub travels : Travels allows events old new wire wire'
   pub explains : (versions : Versions) → Explains versions budget fault events
   pub asked_are : (asked_in events ≡ asked) ⊎ (asked_in events ≡ [])
@@ -79,7 +79,7 @@ StartsOne allows start asked budget (Err fault) old new wire wire' = HasNoStart 
 
 -- the start pages came, one ask waiting at a time, and nothing is held
 pub record HasStarts (allows : List ℕ → ℕ → List ℕ → List ℕ → Type 0) (starts : List Address) (pages : List Page) (old new : Pooled) (wire wire' : WireState) : Type 0 where
-  pub events : List Event
+  pub events : List PoolEvent
   pub travels : Travels allows events old new wire wire'
   pub reads : ReadsStarts starts pages events
   pub few : WaitFew 1 (length (held old)) events
@@ -89,7 +89,7 @@ pub record HasStarts (allows : List ℕ → ℕ → List ℕ → List ℕ → Ty
 
 -- one of them did not
 pub record HasNoStarts (allows : List ℕ → ℕ → List ℕ → List ℕ → Type 0) (starts : List Address) (budget : ℕ) (fault : ClientFault) (old new : Pooled) (wire wire' : WireState) : Type 0 where
-  pub events : List Event
+  pub events : List PoolEvent
   pub travels : Travels allows events old new wire wire'
   pub explains : (versions : Versions) → Explains versions budget fault events
   pub asked : AsksStarts starts events

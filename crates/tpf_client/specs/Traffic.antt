@@ -14,11 +14,11 @@ use Rattle.request_pool.specs.Runs.{Moment}
 use Rattle.request_pool.specs.Steps.{StepsTo}
 
 -- an ask was put; the whole reply to one came; nothing came in a step; or a step ended with a fault
-pub data Event : Type 0 where
-  Asked : Ask → Event
-  Came : Ask → Reply → Event
-  Waited : Event
-  Broke : PoolFault → Event
+pub data PoolEvent : Type 0 where
+  Asked : Ask → PoolEvent
+  Came : Ask → Reply → PoolEvent
+  Waited : PoolEvent
+  Broke : PoolFault → PoolEvent
 
 -- the same pool without its fault
 abbrev pub without_fault : Pooled → Pooled
@@ -52,11 +52,11 @@ pub record StepBreaks (fault : PoolFault) (old new : Pooled) (wire wire' : WireS
   pub had_none : old.fault ≡ None
   pub kept : new.fault ≡ Some (kept_of fault)
 
-abbrev pub Happens : Event → Pooled → Pooled → WireState → WireState → Type 0
-Happens (Asked ask) old new wire wire' = Puts ask old new × (wire' ≡ wire)
-Happens (Came ask reply) old new wire wire' = Comes ask reply old new wire wire'
-Happens Waited old new wire wire' = StepWaits old new wire wire'
-Happens (Broke fault) old new wire wire' = StepBreaks fault old new wire wire'
+abbrev pub PoolHappens : PoolEvent → Pooled → Pooled → WireState → WireState → Type 0
+PoolHappens (Asked ask) old new wire wire' = Puts ask old new × (wire' ≡ wire)
+PoolHappens (Came ask reply) old new wire wire' = Comes ask reply old new wire wire'
+PoolHappens Waited old new wire wire' = StepWaits old new wire wire'
+PoolHappens (Broke fault) old new wire wire' = StepBreaks fault old new wire wire'
 
 -- one for the ticket
 abbrev pub is_under : ℕ → Ask → ℕ
@@ -75,19 +75,19 @@ pub record IsLawful (allows : List ℕ → ℕ → List ℕ → List ℕ → Typ
   pub lively : IsLively wire
 
 -- An event, and what holds after it: the pool suits the wire, its tickets differ, unless it ended, and its bounds are as before.
-pub record Moves (allows : List ℕ → ℕ → List ℕ → List ℕ → Type 0) (event : Event) (old new : Pooled) (wire wire' : WireState) : Type 0 where
-  pub happens : Happens event old new wire wire'
+pub record Moves (allows : List ℕ → ℕ → List ℕ → List ℕ → Type 0) (event : PoolEvent) (old new : Pooled) (wire wire' : WireState) : Type 0 where
+  pub happens : PoolHappens event old new wire wire'
   pub suits : SuitsWire new wire'
   pub distinct : new.fault ≡ None → AreDistinct (held new)
   pub bounds : bounds_of (without_fault new) ≡ bounds_of (without_fault old)
   pub lawful : IsLawful allows wire'
 
 -- these events, one after another
-abbrev pub Travels : (List ℕ → ℕ → List ℕ → List ℕ → Type 0) → List Event → Pooled → Pooled → WireState → WireState → Type 0
+abbrev pub Travels : (List ℕ → ℕ → List ℕ → List ℕ → Type 0) → List PoolEvent → Pooled → Pooled → WireState → WireState → Type 0
 Travels allows [] old new wire wire' = (new ≡ old) × (wire' ≡ wire)
 Travels allows (event ∷ events) old new wire wire' = (mid : Moment) × Moves allows event old mid.pool wire mid.wire × Travels allows events mid.pool new mid.wire wire'
 
 -- the last of the events is this one
-pub record EndsWith (event : Event) (events : List Event) : Type 0 where
-  pub before : List Event
+pub record EndsWith (event : PoolEvent) (events : List PoolEvent) : Type 0 where
+  pub before : List PoolEvent
   pub is_last : events ≡ before ++ event ∷ []

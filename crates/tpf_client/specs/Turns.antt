@@ -12,7 +12,7 @@ use Rattle.request_pool.specs.Owned.{SuitsWire}
 use Rattle.join_core.specs.Evaluations.{Account, Standing, Terms, Sizes, HasHome, EndsNumber, EndsTicket}
 use Rattle.tpf_client.specs.declared.asks.Arrived.{Arrived}
 use Rattle.tpf_client.specs.declared.fault.ClientFault.{ClientFault}
-use Rattle.tpf_client.specs.Traffic.{is_under, AreDistinct, Event, Asked, Came, Waited, Broke, Travels}
+use Rattle.tpf_client.specs.Traffic.{is_under, AreDistinct, PoolEvent, Asked, Came, Waited, Broke, Travels}
 use Rattle.tpf_client.specs.Causes.{Explains, Versions}
 use Rattle.tpf_client.specs.Asking.{PutsAll}
 
@@ -85,7 +85,7 @@ pub record OwesMore (before : Account) (rows : List Places) (asked : List Ask) :
 -- ---- events
 
 -- the asks that were put
-abbrev pub asked_in : List Event → List Ask
+abbrev pub asked_in : List PoolEvent → List Ask
 asked_in [] = []
 asked_in (Asked ask ∷ events) = ask ∷ asked_in events
 asked_in (Came ask reply ∷ events) = asked_in events
@@ -93,7 +93,7 @@ asked_in (Waited ∷ events) = asked_in events
 asked_in (Broke fault ∷ events) = asked_in events
 
 -- the asks whose replies came
-abbrev pub answered_in : List Event → List Ask
+abbrev pub answered_in : List PoolEvent → List Ask
 answered_in [] = []
 answered_in (Asked ask ∷ events) = answered_in events
 answered_in (Came ask reply ∷ events) = ask ∷ answered_in events
@@ -101,36 +101,36 @@ answered_in (Waited ∷ events) = answered_in events
 answered_in (Broke fault ∷ events) = answered_in events
 
 -- each address that was asked has the authority of one of these
-abbrev pub AsksAt : List Address → List Event → Type 0
+abbrev pub AsksAt : List Address → List PoolEvent → Type 0
 AsksAt homes events = AllByRecursion (λ ask. HasHome homes ask.address) (asked_in events)
 
 -- the page that came, where it is of the version of its server, is true for its address
-abbrev pub IsTrueReply : (Address → Page → Type 0) → Versions → Event → Type 0
+abbrev pub IsTrueReply : (Address → Page → Type 0) → Versions → PoolEvent → Type 0
 IsTrueReply is_true versions (Asked ask) = Unit {0}
 IsTrueReply is_true versions (Came ask reply) = (page : Page) → Takes reply.body ask.address page → page.version ≡ versions ask.address → is_true ask.address page
 IsTrueReply is_true versions Waited = Unit {0}
 IsTrueReply is_true versions (Broke fault) = Unit {0}
 
 -- the reply that came is a page of the version of its server
-abbrev pub IsPageReply : Versions → Event → Type 0
+abbrev pub IsPageReply : Versions → PoolEvent → Type 0
 IsPageReply versions (Asked ask) = Unit {0}
 IsPageReply versions (Came ask reply) = (page : Page) × Takes reply.body ask.address page × (page.version ≡ versions ask.address)
 IsPageReply versions Waited = Unit {0}
 IsPageReply versions (Broke fault) = Unit {0}
 
 -- so is each that came
-abbrev pub ArePages : Versions → List Event → Type 0
+abbrev pub ArePages : Versions → List PoolEvent → Type 0
 ArePages versions events = AllByRecursion (IsPageReply versions) events
 
 -- Where so many asks wait for their replies at first, no more than the most do at any moment.
-abbrev pub WaitFew : ℕ → ℕ → List Event → Type 0
+abbrev pub WaitFew : ℕ → ℕ → List PoolEvent → Type 0
 WaitFew most waiting [] = waiting ≤ most
 WaitFew most waiting (Asked ask ∷ events) = (waiting ≤ most) × WaitFew most (waiting + 1) events
 WaitFew most waiting (Came ask reply ∷ events) = (waiting ≤ most) × WaitFew most (waiting - 1) events
 WaitFew most waiting (Waited ∷ events) = WaitFew most waiting events
 WaitFew most waiting (Broke fault ∷ events) = WaitFew most waiting events
 
-abbrev pub AreTrue : (Address → Page → Type 0) → Versions → List Event → Type 0
+abbrev pub AreTrue : (Address → Page → Type 0) → Versions → List PoolEvent → Type 0
 AreTrue is_true versions events = AllByRecursion (IsTrueReply is_true versions) events
 
 -- ---- an evaluation, by its ghost members
@@ -178,7 +178,7 @@ module _ {Source Eval : Type 0} (suits : Source → Eval → Type 0) (account : 
       pub owes : (source : Source) → suits source old → IsTrueFor source old arrived.ticket page → EndsTicket (account source old) (account source new) arrived.ticket
 
     -- A source that the evaluation suits, with these asks out, and for which all pages are true that came.
-    pub record IsTruth (source : Source) (e : Eval) (versions : Versions) (events : List Event) (pool : Pooled) : Type 0 where
+    pub record IsTruth (source : Source) (e : Eval) (versions : Versions) (events : List PoolEvent) (pool : Pooled) : Type 0 where
       pub is_suited : suits source e
       pub is_out : IsOut pool (account source e)
       pub pages : AreTrue (is_true source) versions events
@@ -191,7 +191,7 @@ module _ {Source Eval : Type 0} (suits : Source → Eval → Type 0) (account : 
 
     module _ (allows : List ℕ → ℕ → List ℕ → List ℕ → Type 0) where
       -- Events between the pool and the wire, and the rows that the evaluation gave in these.
-      pub record Went (old new : Eval) (versions : Versions) (events : List Event) (rows : List Places) (pool pool' : Pooled) (wire wire' : WireState) : Type 0 where
+      pub record Went (old new : Eval) (versions : Versions) (events : List PoolEvent) (rows : List Places) (pool pool' : Pooled) (wire wire' : WireState) : Type 0 where
         pub travels : Travels allows events pool pool' wire wire'
         pub on_wire : SuitsWire pool' wire'
         pub pages : ArePages versions events
@@ -202,7 +202,7 @@ module _ {Source Eval : Type 0} (suits : Source → Eval → Type 0) (account : 
         pub stays : (source : Source) → IsTruth source old versions events pool → Stays source old new rows (asked_in events) pool'
 
       -- Events and rows, and then a fault.
-      pub record Failed (old : Eval) (versions : Versions) (budget : ℕ) (fault : ClientFault) (events : List Event) (rows : List Places) (pool pool' : Pooled) (wire wire' : WireState) : Type 0 where
+      pub record Failed (old : Eval) (versions : Versions) (budget : ℕ) (fault : ClientFault) (events : List PoolEvent) (rows : List Places) (pool pool' : Pooled) (wire wire' : WireState) : Type 0 where
         pub travels : Travels allows events pool pool' wire wire'
         pub on_wire : SuitsWire pool' wire'
         pub explains : Explains versions budget fault events

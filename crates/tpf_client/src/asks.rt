@@ -5,16 +5,15 @@ ghost use Rattle.tpf_base.specs.Links.{SameAllowed};
 ghost use Rattle.request_pool.specs.Pools.{empty_pool, held};
 ghost use Rattle.request_pool.specs.Owned.{SuitsWire, held_on};
 ghost use Rattle.request_pool.specs.Closing.{ClosesSome};
-ghost use Rattle.tpf_client.specs.Traffic.{IsLawful};
 ghost use Rattle.tpf_client.specs.Asking.{PutsOne, StepsOn, next_of};
 
-use crate::Options;
+use crate::{Options, laws};
 use http_wire::Reply;
 use request_pool::{Pool, PoolFault, Stepped};
 use std::alloc::Global;
 use std::marker::Model;
 use template_fill::WebAddress;
-use tpf_base::{Dial, OutOfMemory, Wire};
+use tpf_base::{Dial, OutOfMemory};
 
 /// The reply to an ask: its ticket, and the address that was asked for.
 #[derive(Drop)]
@@ -52,11 +51,6 @@ impl Model for Asks {
 
     ghost invariant = { λ a. TicketsDiffer a.pool };
 }
-
-/// What every wire keeps to. It does nothing.
-pub fn is_lawful<W: Wire>(wire: &W)
-    ensures { IsLawful (W.allows wire.now) (W.state wire.now) }
-{}
 
 /// What a step of the pool comes to.
 fn next_of(stepped: Result<Stepped, PoolFault>) -> Result<Next, PoolFault>
@@ -125,7 +119,7 @@ impl Asks {
         ensures allowed { SameAllowed (W.allows wire.old) (W.allows wire.new) }
     {
         let stepped = self.pool.step(wire);
-        is_lawful(wire);
+        laws::is_lawful(wire);
         next_of(stepped)
     }
 

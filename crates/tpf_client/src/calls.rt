@@ -1,91 +1,27 @@
 // The calls.
 ghost use Rattle.std.specs.Prelude.{ℕ, ◌≡◌, ◌≤◌, ◌<◌, ◌^◌, [], ◌∷◌, length, true, IfOk, IfErr, OnErr, IsErrOf};
 ghost use Rattle.tpf_base.specs.Causes.{Rose};
-ghost use Rattle.rdf_terms.specs.declared.limits.TheConstants.{MOST_ROWS};
 ghost use Rattle.tpf_base.specs.Links.{SameAllowed};
 ghost use Rattle.tpf_client.specs.Calls.{most_asked, WritesResult, WritesPrefix};
 ghost use Rattle.tpf_client.specs.Sinks.{LeavesSink};
 ghost use Rattle.tpf_client.specs.Sources.{sources_of, world_sources};
 ghost use Rattle.tpf_client.specs.Offers.{publisher, offer_in_blocks};
 ghost use Rattle.tpf_client.specs.Ends.{ends_in_blocks};
-ghost use Rattle.tpf_client.specs.Honest.{Laws, IsSolutions, WritesSolutions, WritesSolutionsFront};
-ghost use Rattle.tpf_client.specs.Requests.{TrafficLaws};
+ghost use Rattle.tpf_client.specs.Honest.{IsSolutions, WritesSolutions, WritesSolutionsFront};
 ghost use Rattle.tpf_client.specs.Plans.{OverHonest, RisesFew, PlanFits, MayStill};
 ghost use Rattle.tpf_client.specs.Still.{SucceedsStill, PacesStill};
 ghost use Rattle.tpf_client.specs.Ended.{WritesEnded, GivesEnded, WritesOverEnds, GivesOverEnds};
 
-use crate::asks::{Asks, is_lawful};
+use crate::asks::Asks;
 use crate::results::{Call, gather, write_result};
-use crate::{ClientFault, Options, Report};
+use crate::{ClientFault, Options, Report, laws};
 use bgp_core::{Query, Row};
-use control_laws::controls_read_back;
-use control_reader::a_body_is_one_page;
-use http_ends::{a_reading_stays, a_response_is_cut, an_answer_is_read, requests_are_cut};
-use join_core::{BlockSize, Evaluates, Join};
-use plan_laws::a_server_is_a_world;
-use pool_laws::{
-    a_step_has_a_cause, asks_are_answered, exchanges_are_counted, failures_are_ends,
-    failures_are_rises, links_are_for_asks, requests_are_counted, starts_are_spent,
-    steps_provoke_nothing, whole_replies_come_first, whole_requests_are_sent,
-};
-use rdf_terms::askable_slots_are_kept;
-use result_json::{pieces_make_the_text, rows_go_on};
+use join_core::{Evaluates, Join};
 use std::alloc::Global;
 use std::slice;
 use std::sync::Wait;
-use template_fill::{
-    WebAddress, authorities_are_hosts_and_ports, pages_are_answered, pages_share_authority,
-};
+use template_fill::WebAddress;
 use tpf_base::{Dial, Sink};
-
-/// The laws on which the solutions rest. It does nothing.
-pub fn solutions_rest_on_laws()
-    ensures { Laws }
-{
-    whole_replies_come_first();
-    pages_are_answered();
-    controls_read_back();
-    a_body_is_one_page();
-    a_server_is_a_world();
-    askable_slots_are_kept();
-    pages_share_authority();
-    pieces_make_the_text();
-    rows_go_on();
-    requests_are_cut();
-    an_answer_is_read();
-    a_reading_stays();
-    a_response_is_cut();
-    authorities_are_hosts_and_ports();
-}
-
-/// The laws on which what is said of links and requests rests. It does nothing.
-pub fn traffic_rests_on_laws<W: Dial>(wire: &W)
-    ensures { TrafficLaws }
-{
-    links_are_for_asks();
-    exchanges_are_counted();
-    a_step_has_a_cause();
-    whole_requests_are_sent();
-    requests_are_counted();
-    asks_are_answered();
-    failures_are_rises(wire);
-    failures_are_ends();
-    starts_are_spent();
-    steps_provoke_nothing(wire);
-}
-
-/// A bound of a body is below 2^64. It does nothing.
-fn is_bounded(max_body: u64)
-    ensures { max_body < 2 ^ 64 }
-{}
-
-/// A block has one row at least, and no more than an address may have.
-fn is_sized(block: BlockSize)
-    ensures low { 1 ≤ block }
-    ensures high { block ≤ MOST_ROWS }
-{
-    block.get();
-}
 
 /// Asks the servers of the start pages for what a query needs, and writes the text of its result. What it asks for and the
 /// rows that it writes are those of an evaluation that begins behind the start pages, which are asked for one after another:
@@ -117,9 +53,9 @@ pub fn evaluate_to<R: Wait, E: Evaluates + Drop, W: Dial, K: Sink>(
     ensures sink { LeavesSink (K.state out.old) (K.state out.new) result }
     ensures allowed { SameAllowed (W.allows wire.old) (W.allows wire.new) }
 {
-    is_lawful(wire);
-    solutions_rest_on_laws();
-    traffic_rests_on_laws(wire);
+    laws::is_lawful(wire);
+    laws::solutions_rest_on_laws();
+    laws::traffic_rests_on_laws(wire);
     let mut asks = Asks::new(alloc, options);
     let call = Call {
         alloc,
@@ -194,11 +130,11 @@ pub fn query<R: Wait, W: Dial, K: Sink>(
     ensures sink { LeavesSink (K.state out.old) (K.state out.new) result }
     ensures allowed { SameAllowed (W.allows wire.old) (W.allows wire.new) }
 {
-    is_lawful(wire);
-    solutions_rest_on_laws();
-    traffic_rests_on_laws(wire);
-    is_bounded(options.max_body);
-    is_sized(options.block);
+    laws::is_lawful(wire);
+    laws::solutions_rest_on_laws();
+    laws::traffic_rests_on_laws(wire);
+    laws::is_bounded(options.max_body);
+    laws::is_sized(options.block);
     evaluate_to::<_, Join, _, _>(rt, alloc, query, slice::from_ref(start), options, wire, out)
 }
 
@@ -223,9 +159,9 @@ pub fn evaluate_rows<R: Wait, E: Evaluates + Drop, W: Dial>(
     ensures sink { IsErrOf result ClientFault.Sink → ⊥ }
     ensures allowed { SameAllowed (W.allows wire.old) (W.allows wire.new) }
 {
-    is_lawful(wire);
-    solutions_rest_on_laws();
-    traffic_rests_on_laws(wire);
+    laws::is_lawful(wire);
+    laws::solutions_rest_on_laws();
+    laws::traffic_rests_on_laws(wire);
     let mut asks = Asks::new(alloc, options);
     let call = Call {
         alloc,
@@ -271,10 +207,10 @@ pub fn collect<R: Wait, W: Dial>(
     ensures sink { IsErrOf result ClientFault.Sink → ⊥ }
     ensures allowed { SameAllowed (W.allows wire.old) (W.allows wire.new) }
 {
-    is_lawful(wire);
-    solutions_rest_on_laws();
-    traffic_rests_on_laws(wire);
-    is_bounded(options.max_body);
-    is_sized(options.block);
+    laws::is_lawful(wire);
+    laws::solutions_rest_on_laws();
+    laws::traffic_rests_on_laws(wire);
+    laws::is_bounded(options.max_body);
+    laws::is_sized(options.block);
     evaluate_rows::<_, Join, _>(rt, alloc, query, slice::from_ref(start), options, wire)
 }

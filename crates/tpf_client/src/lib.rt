@@ -16,16 +16,15 @@
 mod asks;
 mod calls;
 mod fault;
+pub mod laws;
 mod options;
 mod results;
 mod rows;
 mod start;
 mod turns;
 
-pub use asks::is_lawful;
-pub use calls::{
-    collect, evaluate_rows, evaluate_to, query, solutions_rest_on_laws, traffic_rests_on_laws,
-};
+pub use calls::{collect, evaluate_rows, evaluate_to, query};
 pub use fault::ClientFault;
 pub use join_core::BlockSize;
 pub use options::{Options, Report};
+pub use rows::GATHERED;

@@ -8,7 +8,7 @@ ghost use Rattle.result_json.specs.Results.{result_text};
 ghost use Rattle.request_pool.specs.Pools.{held};
 ghost use Rattle.request_pool.specs.Owned.{SuitsWire};
 ghost use Rattle.join_core.specs.Rounds.{FormsAtHome};
-ghost use Rattle.tpf_client.specs.Traffic.{Event};
+ghost use Rattle.tpf_client.specs.Traffic.{PoolEvent};
 ghost use Rattle.tpf_client.specs.Causes.{IsLocal};
 ghost use Rattle.tpf_client.specs.Rows.{begun};
 ghost use Rattle.tpf_client.specs.Sinks.{LeavesSink};
@@ -25,7 +25,7 @@ use crate::turns::{Bounds, Evaluation, evaluate};
 use crate::{ClientFault, Options, Report};
 use bgp_core::{Query, Row};
 use join_core::Evaluates;
-use result_json::{ResultWriter, pieces_make_the_text};
+use result_json::ResultWriter;
 use std::alloc::Global;
 use std::sync::Wait;
 use template_fill::WebAddress;
@@ -56,7 +56,7 @@ fn join_pages<R: Wait, E: Evaluates + Drop, W: Dial, B, T: TakesRows<B>>(
     requires none { held asks.old ≡ [] }
     requires no_fault { asks.old.fault ≡ None }
     requires suits { SuitsWire asks.old (W.state wire.old) }
-    ensures joins { OnOk result ((events : List Event) × (given : List Places)
+    ensures joins { OnOk result ((events : List PoolEvent) × (given : List Places)
         × Joins (W.allows wire.old)
         (most_behind call.entry.options.now call.entry.query.now (length pages.forms))
         (sources_of E.Source E.fits E.is_true E.rows E.plan E.reported call.entry.options.now.block)
@@ -64,7 +64,7 @@ fn join_pages<R: Wait, E: Evaluates + Drop, W: Dial, B, T: TakesRows<B>>(
         (told_at call.entry.starts.now pages.versions.items) events given asks.old asks.new
         (W.state wire.old) (W.state wire.new)
         × T.takes given rows.old rows.new behind.old behind.new) }
-    ensures some { IfErr result (λ fault. (events : List Event) × (given : List Places)
+    ensures some { IfErr result (λ fault. (events : List PoolEvent) × (given : List Places)
         × JoinsSome (W.allows wire.old)
         (most_behind call.entry.options.now call.entry.query.now (length pages.forms))
         (sources_of E.Source E.fits E.is_true E.rows E.plan E.reported call.entry.options.now.block)
@@ -120,7 +120,7 @@ fn write_joined<R: Wait, E: Evaluates + Drop, W: Dial, K: Sink>(
     requires no_fault { asks.old.fault ≡ None }
     requires suits { SuitsWire asks.old (W.state wire.old) }
     requires fresh { text.old ≡ begun call.query.now }
-    ensures ok { OnOk result ((events : List Event) × (rows : List Places)
+    ensures ok { OnOk result ((events : List PoolEvent) × (rows : List Places)
         × Joins (W.allows wire.old)
         (most_behind call.entry.options.now call.entry.query.now (length pages.forms))
         (sources_of E.Source E.fits E.is_true E.rows E.plan E.reported call.entry.options.now.block)
@@ -151,7 +151,7 @@ fn write_joined<R: Wait, E: Evaluates + Drop, W: Dial, K: Sink>(
     ensures sink { LeavesSink (K.state out.old) (K.state out.new) result }
     ensures allowed { SameAllowed (W.allows wire.old) (W.allows wire.new) }
 {
-    pieces_make_the_text();
+    result_json::laws::pieces_make_the_text();
     match join_pages::<_, E, _, _, _>(rt, call, pages, asks, wire, text, out) {
         Ok(()) => match text.finish(out) {
             Ok(()) => Ok(()),

@@ -13,8 +13,8 @@ use std::alloc::Global;
 use std::marker::Model;
 use tpf_base::{Fault, OutOfMemory, Sink};
 
-/// So many bytes are gathered before they are given to a sink, unless the call waits before.
-const GATHERED: usize = 65536;
+/// So many bytes of a text are gathered before they are given to a sink, unless the call waits before.
+pub const GATHERED: usize = 65536;
 
 /// Takes rows, and hands what it makes of them to what stands behind it.
 pub(crate) trait TakesRows<B> {

@@ -7,10 +7,10 @@ ghost use Rattle.request_pool.specs.Owned.{SuitsWire};
 ghost use Rattle.tpf_client.specs.Asking.{Awaits, PutsOne, ReadsPage};
 ghost use Rattle.tpf_client.specs.Starts.{StartsOne, StartsAll, start_ask};
 
-use crate::ClientFault;
-use crate::asks::{Arrived, Asks, Next, is_lawful};
+use crate::asks::{Arrived, Asks, Next};
 use crate::fault::shown;
-use control_reader::{Page, PageFault, pages_keep_authority, read_page};
+use crate::{ClientFault, laws};
+use control_reader::{Page, PageFault, read_page};
 use join_core::FormList;
 use request_pool::PoolFault;
 use std::alloc::Global;
@@ -112,7 +112,7 @@ fn ask_start<R: Wait, W: Dial>(
     ensures no_sink { IsErrOf result ClientFault.Sink → ⊥ }
     ensures allowed { SameAllowed (W.allows wire.old) (W.allows wire.new) }
 {
-    is_lawful(wire);
+    laws::is_lawful(wire);
     match put_start(alloc, start, asks) {
         Ok(()) => await_start(rt, alloc, start, budget, asks, wire),
         Err(_) => Err(ClientFault::OutOfMemory),
@@ -159,7 +159,7 @@ pub(crate) fn ask_starts<R: Wait, W: Dial>(
     ensures no_sink { IsErrOf result ClientFault.Sink → ⊥ }
     ensures allowed { SameAllowed (W.allows wire.old) (W.allows wire.new) }
 {
-    pages_keep_authority();
+    control_reader::laws::pages_keep_authority();
     let mut forms = Vec::new(alloc);
     let mut versions = Vec::new(alloc);
     for start in starts {

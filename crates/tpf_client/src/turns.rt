@@ -6,18 +6,18 @@ ghost use Rattle.bgp_core.specs.Solutions.{Places};
 ghost use Rattle.request_pool.specs.Pools.{Ask, held};
 ghost use Rattle.request_pool.specs.Owned.{SuitsWire};
 ghost use Rattle.join_core.specs.Evaluations.{EndsInQuiet};
-ghost use Rattle.tpf_client.specs.Traffic.{Event};
+ghost use Rattle.tpf_client.specs.Traffic.{PoolEvent};
 ghost use Rattle.tpf_client.specs.Told.{told_at, told_in};
 ghost use Rattle.tpf_client.specs.Turns.{Limits, keeps_both, Meets, Hands, Gives, Readies, TakesReply, Went, Failed};
 ghost use Rattle.tpf_client.specs.Causes.{IsTakeFault, IsLocal};
 ghost use Rattle.tpf_client.specs.Sinks.{KeepsSink, LeavesSink};
 
-use crate::ClientFault;
-use crate::asks::{Arrived, Asks, is_lawful};
+use crate::asks::{Arrived, Asks};
 use crate::fault::{of_sink, shown};
 use crate::rows::TakesRows;
 use crate::start::{next_reply, read};
-use control_reader::{Page, pages_keep_authority};
+use crate::{ClientFault, laws};
+use control_reader::Page;
 use join_core::{Answered, Evaluates};
 use std::alloc::Global;
 use std::sync::Wait;
@@ -133,7 +133,7 @@ fn take_reply<E: Evaluates>(
         (λ address. version)) }
     ensures err { IfErr result (IsTakeFault arrived (λ address. version)) }
 {
-    pages_keep_authority();
+    control_reader::laws::pages_keep_authority();
     arrived.address.is_valid();
     let ticket = arrived.ticket;
     match read(alloc, arrived) {
@@ -200,11 +200,11 @@ fn take_next<R: Wait, E: Evaluates, W: Dial>(
         (E.standing evaluation.old) asks.old }
     requires some { held asks.old ≢ [] }
     requires suits { SuitsWire asks.old (W.state wire.old) }
-    ensures ok { OnOk result ((events : List Event) × Went E.suits E.account
+    ensures ok { OnOk result ((events : List PoolEvent) × Went E.suits E.account
         (keeps_both E.keeps_to E.keeps_small) E.standing E.is_true (W.allows wire.old) evaluation.old evaluation.new
         (told_in bounds.entry) events [] asks.old asks.new (W.state wire.old) (W.state wire.new)) }
     ensures given { OnOk result ((E.standing evaluation.new).given ≡ (E.standing evaluation.old).given) }
-    ensures err { IfErr result (λ fault. (events : List Event) × Failed E.suits E.account
+    ensures err { IfErr result (λ fault. (events : List PoolEvent) × Failed E.suits E.account
         (keeps_both E.keeps_to E.keeps_small) E.standing E.is_true (W.allows wire.old) evaluation.old
         (told_in bounds.entry) bounds.entry.budget fault events [] asks.old asks.new (W.state wire.old)
         (W.state wire.new)) }
@@ -235,14 +235,14 @@ fn turn<R: Wait, E: Evaluates + Drop, W: Dial, B, T: TakesRows<B>>(
         (keeps_both E.keeps_to E.keeps_small limits evaluation.old.state) (E.standing evaluation.old.state) asks.old }
     requires given { evaluation.old.tickets ≡ (E.standing evaluation.old.state).given }
     requires suits { SuitsWire asks.old (W.state wire.old) }
-    ensures went { OnOk result ((events : List Event) × (taken : List Places)
+    ensures went { OnOk result ((events : List PoolEvent) × (taken : List Places)
         × Went E.suits E.account (keeps_both E.keeps_to E.keeps_small) E.standing E.is_true
         (W.allows wire.old) evaluation.old.state evaluation.new.state (told_in bounds.entry) events taken
         asks.old asks.new (W.state wire.old) (W.state wire.new)
         × T.takes taken rows.old rows.new behind.old behind.new) }
     ensures given { OnOk result (evaluation.new.tickets ≡ (E.standing evaluation.new.state).given) }
     ensures done { result ≡ Ok true → (E.standing evaluation.new.state).done ≡ true }
-    ensures failed { IfErr result (λ fault. (events : List Event) × (taken : List Places)
+    ensures failed { IfErr result (λ fault. (events : List PoolEvent) × (taken : List Places)
         × Failed E.suits E.account (keeps_both E.keeps_to E.keeps_small) E.standing E.is_true
         (W.allows wire.old) evaluation.old.state (told_in bounds.entry) bounds.entry.budget fault events taken
         asks.old asks.new (W.state wire.old) (W.state wire.new)
@@ -251,7 +251,7 @@ fn turn<R: Wait, E: Evaluates + Drop, W: Dial, B, T: TakesRows<B>>(
     ensures sink { LeavesSink (T.sink behind.old) (T.sink behind.new) result }
     ensures allowed { SameAllowed (W.allows wire.old) (W.allows wire.new) }
 {
-    is_lawful(wire);
+    laws::is_lawful(wire);
     match prepare(
         bounds.alloc,
         &mut evaluation.tickets,
@@ -327,13 +327,13 @@ pub(crate) fn evaluate<R: Wait, E: Evaluates + Drop, W: Dial, B, T: TakesRows<B>
         (keeps_both E.keeps_to E.keeps_small limits evaluation.old.state) (E.standing evaluation.old.state) asks.old }
     requires given { evaluation.old.tickets ≡ (E.standing evaluation.old.state).given }
     requires suits { SuitsWire asks.old (W.state wire.old) }
-    ensures went { OnOk result ((events : List Event) × (taken : List Places)
+    ensures went { OnOk result ((events : List PoolEvent) × (taken : List Places)
         × Went E.suits E.account (keeps_both E.keeps_to E.keeps_small) E.standing E.is_true
         (W.allows wire.old) evaluation.old.state evaluation.new.state (told_in bounds.entry) events taken
         asks.old asks.new (W.state wire.old) (W.state wire.new)
         × T.takes taken rows.old rows.new behind.old behind.new) }
     ensures done { OnOk result ((E.standing evaluation.new.state).done ≡ true) }
-    ensures failed { IfErr result (λ fault. (events : List Event) × (taken : List Places)
+    ensures failed { IfErr result (λ fault. (events : List PoolEvent) × (taken : List Places)
         × Failed E.suits E.account (keeps_both E.keeps_to E.keeps_small) E.standing E.is_true
         (W.allows wire.old) evaluation.old.state (told_in bounds.entry) bounds.entry.budget fault events taken
         asks.old asks.new (W.state wire.old) (W.state wire.new)

@@ -1,8 +1,9 @@
 -- The pool begins with nothing, and its links are closed at last.
 use Rattle.std.proofs.Common.{ap}
+use Rattle.std.proofs.lemmas.Result.{IfOk-weaker}
 use Rattle.request_pool.specs.Pools.{Pooled, held}
 use Rattle.tpf_client.specs.Sources.{sources_of}
-use Rattle.tpf_client.proofs.Shutting.{if-ok, on-err-of, suits-empty}
+use Rattle.tpf_client.proofs.Shutting.{on-err-of, suits-empty}
 use Rattle.tpf_client.proofs.Written.{result-written, prefix-written}
 use Rattle.tpf_client.proofs.Ended.{writes-ended}
 use Rattle.tpf_client.proofs.calls.evaluate_to.Goals as goal
@@ -28,7 +29,7 @@ returns-clause-ended g c =
     (g.K.Sink.state c.args.out.now) (g.K.Sink.state c.write_result-ended.new.out) c.write_result-ended.result c.write_result-ended.ensures.ok c.write_result-ended.ensures.err
 
 pub returns-clause-whole : goal.returns-clause-whole
-returns-clause-whole g c = if-ok c.write_result-ended.result _ _ (λ report w. result-written _ _ c.args.query.now c.args.starts.now report _ _ w) c.write_result-ended.ensures.ok
+returns-clause-whole g c = IfOk-weaker c.write_result-ended.result _ _ (λ report w. result-written _ _ c.args.query.now c.args.starts.now report _ _ w) c.write_result-ended.ensures.ok
 
 pub returns-clause-front : goal.returns-clause-front
 returns-clause-front g c = on-err-of c.write_result-ended.result _ _ (λ fault w. prefix-written _ _ c.args.query.now c.args.starts.now c.solutions_rest_on_laws.ensures.pieces c.solutions_rest_on_laws.ensures.goes_on c.args.options.now.budget fault _ _ w.some) c.write_result-ended.ensures.err

@@ -1,5 +1,6 @@
 -- The forms of the start pages have the authorities of the starts, and nothing is held behind these.
-use Rattle.tpf_client.proofs.Shutting.{if-ok, if-err, either-way}
+use Rattle.std.proofs.lemmas.Result.{IfOk-weaker, IfErr-weaker}
+use Rattle.tpf_client.proofs.Shutting.{either-way}
 use Rattle.tpf_client.proofs.Written.{forms-told, some-forms, some-versions, all-gathered, some-written, none-written, less-suits}
 use Rattle.tpf_client.proofs.Waiting.{allowed-then}
 use Rattle.tpf_client.proofs.results.gather.Goals as goal
@@ -25,13 +26,13 @@ gather_rows-requires-clause-suits g c = c.in-Ok.ensures.starts.2.suits
 pub returns-in-Ok-clause-ok : goal.returns-in-Ok-clause-ok
 returns-in-Ok-clause-ok g c =
     let s = c.in-Ok.ensures.starts in
-    if-ok c.gather_rows.result _ _ (λ r w. all-gathered (g.W.Wire.allows c.args.wire.now) (g.W.Wire.allows c.ask_starts.new.wire) c.in-Ok.ensures.allowed _ c.args.call.options.now c.args.call.query.now c.args.call.starts.now s.0 c.in-Ok.pages c.args.asks.now c.ask_starts.new.asks c.gather_rows.new.asks
+    IfOk-weaker c.gather_rows.result _ _ (λ r w. all-gathered (g.W.Wire.allows c.args.wire.now) (g.W.Wire.allows c.ask_starts.new.wire) c.in-Ok.ensures.allowed _ c.args.call.options.now c.args.call.query.now c.args.call.starts.now s.0 c.in-Ok.pages c.args.asks.now c.ask_starts.new.asks c.gather_rows.new.asks
     (g.W.Wire.state c.args.wire.now) (g.W.Wire.state c.ask_starts.new.wire) (g.W.Wire.state c.gather_rows.new.wire) s.1 s.2 r.1 r.0.items w) c.gather_rows.ensures.ok
 
 pub returns-in-Ok-clause-err : goal.returns-in-Ok-clause-err
 returns-in-Ok-clause-err g c =
     let s = c.in-Ok.ensures.starts in
-    if-err c.gather_rows.result _ _ (λ fault w. some-written (g.W.Wire.allows c.args.wire.now) (g.W.Wire.allows c.ask_starts.new.wire) c.in-Ok.ensures.allowed _ c.args.call.options.now c.args.call.query.now c.args.call.starts.now s.0 c.in-Ok.pages c.args.asks.now c.ask_starts.new.asks c.gather_rows.new.asks
+    IfErr-weaker c.gather_rows.result _ _ (λ fault w. some-written (g.W.Wire.allows c.args.wire.now) (g.W.Wire.allows c.ask_starts.new.wire) c.in-Ok.ensures.allowed _ c.args.call.options.now c.args.call.query.now c.args.call.starts.now s.0 c.in-Ok.pages c.args.asks.now c.ask_starts.new.asks c.gather_rows.new.asks
     (g.W.Wire.state c.args.wire.now) (g.W.Wire.state c.ask_starts.new.wire) (g.W.Wire.state c.gather_rows.new.wire) s.1 s.2 c.args.call.options.now.budget fault _ _ w) c.gather_rows.ensures.err
 
 pub returns-in-Ok-clause-suits : goal.returns-in-Ok-clause-suits

@@ -1,6 +1,7 @@
 -- The forms of the start pages have the authorities of the starts, and nothing is held behind these.
+use Rattle.std.proofs.lemmas.Result.{IfOk-weaker, IfErr-weaker}
 use Rattle.tpf_client.specs.declared.fault.ClientFault.TheVariants as faults
-use Rattle.tpf_client.proofs.Shutting.{if-ok, if-err, either-way}
+use Rattle.tpf_client.proofs.Shutting.{either-way}
 use Rattle.tpf_client.proofs.Written.{forms-told, some-forms, some-versions, all-written, some-shown, none-shown, less-suits}
 use Rattle.tpf_client.proofs.Going.{err-as}
 use Rattle.tpf_client.proofs.Sinks.{stays-none, leaves-other}
@@ -28,13 +29,13 @@ write_rows-requires-clause-suits g c = c.in-Ok.ensures.starts.2.suits
 pub returns-in-Ok-clause-ok : goal.returns-in-Ok-clause-ok
 returns-in-Ok-clause-ok g c =
     let s = c.in-Ok.ensures.starts in
-    if-ok c.write_rows.result _ _ (λ report w. all-written (g.W.Wire.allows c.args.wire.now) (g.W.Wire.allows c.ask_starts.new.wire) c.in-Ok.ensures.allowed _ c.args.call.options.now c.args.call.query.now c.args.call.starts.now s.0 c.in-Ok.pages c.args.asks.now c.ask_starts.new.asks c.write_rows.new.asks
+    IfOk-weaker c.write_rows.result _ _ (λ report w. all-written (g.W.Wire.allows c.args.wire.now) (g.W.Wire.allows c.ask_starts.new.wire) c.in-Ok.ensures.allowed _ c.args.call.options.now c.args.call.query.now c.args.call.starts.now s.0 c.in-Ok.pages c.args.asks.now c.ask_starts.new.asks c.write_rows.new.asks
     (g.W.Wire.state c.args.wire.now) (g.W.Wire.state c.ask_starts.new.wire) (g.W.Wire.state c.write_rows.new.wire) s.1 s.2 report _ _ w) c.write_rows.ensures.ok
 
 pub returns-in-Ok-clause-err : goal.returns-in-Ok-clause-err
 returns-in-Ok-clause-err g c =
     let s = c.in-Ok.ensures.starts in
-    if-err c.write_rows.result _ _ (λ fault w. some-shown (g.W.Wire.allows c.args.wire.now) (g.W.Wire.allows c.ask_starts.new.wire) c.in-Ok.ensures.allowed _ c.args.call.options.now c.args.call.query.now c.args.call.starts.now s.0 c.in-Ok.pages c.args.asks.now c.ask_starts.new.asks c.write_rows.new.asks
+    IfErr-weaker c.write_rows.result _ _ (λ fault w. some-shown (g.W.Wire.allows c.args.wire.now) (g.W.Wire.allows c.ask_starts.new.wire) c.in-Ok.ensures.allowed _ c.args.call.options.now c.args.call.query.now c.args.call.starts.now s.0 c.in-Ok.pages c.args.asks.now c.ask_starts.new.asks c.write_rows.new.asks
     (g.W.Wire.state c.args.wire.now) (g.W.Wire.state c.ask_starts.new.wire) (g.W.Wire.state c.write_rows.new.wire) s.1 s.2 c.args.call.options.now.budget fault (g.K.Sink.state c.args.out.now) (g.K.Sink.state c.write_rows.new.out) w) c.write_rows.ensures.shown
 
 pub returns-in-Ok-clause-suits : goal.returns-in-Ok-clause-suits

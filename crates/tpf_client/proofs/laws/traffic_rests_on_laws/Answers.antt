@@ -1,4 +1,4 @@
-use Rattle.tpf_client.proofs.calls.traffic_rests_on_laws.Goals as goal
+use Rattle.tpf_client.proofs.laws.traffic_rests_on_laws.Goals as goal
 
 pub returns : goal.returns
 returns g c = record {

@@ -1,4 +1,4 @@
-use Rattle.tpf_client.proofs.calls.solutions_rest_on_laws.Goals as goal
+use Rattle.tpf_client.proofs.laws.solutions_rest_on_laws.Goals as goal
 
 pub returns : goal.returns
 returns c = record {

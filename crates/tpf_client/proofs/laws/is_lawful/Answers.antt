@@ -1,4 +1,4 @@
-use Rattle.tpf_client.proofs.asks.is_lawful.Goals as goal
+use Rattle.tpf_client.proofs.laws.is_lawful.Goals as goal
 
 pub returns : goal.returns
 returns g c = record {
