@@ -24,7 +24,7 @@ use Rattle.plan_laws.specs.JointWorlds.{union, addresses_at, joint_world}
 use Rattle.plan_laws.proofs.JointWorlds.{one-union}
 use Rattle.joint_pages.specs.Truths.{IsPageOfAll}
 use Rattle.tpf_client.specs.declared.options.Options.{Options}
-use Rattle.tpf_client.specs.Traffic.{Event, Asked, Came, Waited, Broke, IsLawful}
+use Rattle.tpf_client.specs.Traffic.{PoolEvent, Asked, Came, Waited, Broke, IsLawful}
 use Rattle.tpf_client.specs.Turns.{AsksAt, AreTrue}
 use Rattle.tpf_client.specs.Told.{told_at}
 use Rattle.tpf_client.specs.Starts.{ReadsStarts, forms_of, versions_of}
@@ -117,13 +117,13 @@ module _ (laws : Laws) (valid : VersionsAreValid) (allows : List ℕ → ℕ →
     tells = all-told allows since starts publishers some honest;
   }
 
-  pub any-of : (events : List Event) (pool : Pooled) → RunsPool allows options since now events pool → AllByRecursion (IsAnyAnswer allows) events
+  pub any-of : (events : List PoolEvent) (pool : Pooled) → RunsPool allows options since now events pool → AllByRecursion (IsAnyAnswer allows) events
   any-of events pool r = any-answers allows laws.puts laws.steps laws.faults (replies-answer laws allows) events (empty_pool options.links options.retries options.budget options.max_body) pool since r.between begins-so r.travels
 
   abbrev AtHome : Ask → Type 0
   AtHome ask = HasHome starts ask.address
 
-  homes-of : (events : List Event) (pool : Pooled) → RunsPool allows options since now events pool → AsksAt starts events → AllByRecursion (CameFrom AtHome) events
+  homes-of : (events : List PoolEvent) (pool : Pooled) → RunsPool allows options since now events pool → AsksAt starts events → AllByRecursion (CameFrom AtHome) events
   homes-of events pool r asks =
       came-from allows (begun options) AtHome events (begun options) pool since r.between (record { given = lawful.given; suits = record { polled = tt; due = tt; owned = λ k. omega arith }; are = λ none. tt; bounds = refl }) asks r.travels
 
@@ -137,7 +137,7 @@ module _ (laws : Laws) (valid : VersionsAreValid) (allows : List ℕ → ℕ →
   }
 
   -- each page that came is true for all servers
-  true-all : (told : List Page) (t : Together laws allows since publishers starts told) (events : List Event) → AllByRecursion (IsAnyAnswer allows) events → AllByRecursion (CameFrom AtHome) events
+  true-all : (told : List Page) (t : Together laws allows since publishers starts told) (events : List PoolEvent) → AllByRecursion (IsAnyAnswer allows) events → AllByRecursion (CameFrom AtHome) events
       → AreTrue (IsPageOfAll (worlds_of publishers t.versions)) (told_at starts (versions_of told)) events
   true-all told t [] any came = tt
   true-all told t (Asked ask ∷ events) any came = (tt, true-all told t events any.1 came.1)
@@ -151,7 +151,7 @@ module _ (laws : Laws) (valid : VersionsAreValid) (allows : List ℕ → ℕ →
   whole-plan : (versions : List ℕ) → are_served publishers starts versions ≡ true → starts ++ plan-over versions ≡ joint_addresses publishers q starts versions
   whole-plan versions e = ap (λ (l : List Address). starts ++ l) (sym (ap (λ (b : Bool). if b then plan-over versions else []) e))
 
-  pub choice-behind : (first later : List Event) (pool : Pooled) → RunsPool allows options since now (first ++ later) pool → AsksAt starts (first ++ later) → (told : List Page) (reads : ReadsStarts starts told first) → ChoiceBehind joint_sources (servers_offer publishers q starts) q starts first later told reads
+  pub choice-behind : (first later : List PoolEvent) (pool : Pooled) → RunsPool allows options since now (first ++ later) pool → AsksAt starts (first ++ later) → (told : List Page) (reads : ReadsStarts starts told first) → ChoiceBehind joint_sources (servers_offer publishers q starts) q starts first later told reads
   choice-behind first later pool r asks told reads =
       let any = any-of (first ++ later) pool r in
       let t = together laws allows since publishers starts told first honest reads (all_front (IsAnyAnswer allows) first later any) in
@@ -177,7 +177,7 @@ module _ (laws : Laws) (valid : VersionsAreValid) (allows : List ℕ → ℕ →
       }
 
   -- the start pages told the versions of that choice
-  pub told-choice : (first later : List Event) (pool : Pooled) (r : RunsPool allows options since now (first ++ later) pool) (asks : AsksAt starts (first ++ later)) (told : List Page) (reads : ReadsStarts starts told first)
+  pub told-choice : (first later : List PoolEvent) (pool : Pooled) (r : RunsPool allows options since now (first ++ later) pool) (asks : AsksAt starts (first ++ later)) (told : List Page) (reads : ReadsStarts starts told first)
       → versions_of told ≡ map (λ n. Some n) (choice-behind first later pool r asks told reads).choice
   unfolding choice-behind
   told-choice first later pool r asks told reads = (together laws allows since publishers starts told first honest reads (all_front (IsAnyAnswer allows) first later (any-of (first ++ later) pool r))).told_are

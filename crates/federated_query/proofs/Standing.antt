@@ -13,7 +13,7 @@ use Rattle.join_core.specs.Evaluations.{HasHome}
 use Rattle.tpf_client.specs.Offers.{Publisher, StandsAmong, HasAmong, AreVersions, IsVersionOf, servers_offer}
 use Rattle.tpf_client.specs.Ends.{AnswersAs}
 use Rattle.tpf_client.proofs.Covered.{StandsThere}
-use Rattle.tpf_client.proofs.Honesty.{over-any}
+use Rattle.pool_laws.proofs.Answers.{over_any}
 use Rattle.federated_query.specs.Servers.{AreApart}
 
 -- ---- authorities
@@ -71,7 +71,7 @@ module _ (allows : List ℕ → ℕ → List ℕ → List ℕ → Type 0) (wire 
         is_config = r.answers.is_config;
         is_honest = r.answers.is_honest;
         served = λ version. true;
-        is_over = over-any allows address.host address.port r.server.history r.server.config r.answers.is_honest;
+        is_over = over_any allows address.host address.port r.server.history r.server.config r.answers.is_honest;
       }
 
 -- ---- the version that a choice has there

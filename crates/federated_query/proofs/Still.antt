@@ -18,7 +18,7 @@ use Rattle.join_core.specs.Evaluations.{HasHome}
 use Rattle.tpf_client.specs.declared.options.Options.{Options}
 use Rattle.tpf_client.specs.declared.fault.ClientFault.{ClientFault}
 use Rattle.tpf_client.specs.declared.fault.ClientFault.TheVariants as faults
-use Rattle.tpf_client.specs.Traffic.{Event, Came, IsLawful}
+use Rattle.tpf_client.specs.Traffic.{PoolEvent, Came, IsLawful}
 use Rattle.tpf_client.specs.Turns.{AsksAt}
 use Rattle.tpf_client.specs.Starts.{start_ask, ReadsStarts, versions_of}
 use Rattle.tpf_client.specs.Calls.{RunsPool, WritesSome, Happened, AreThese}
@@ -62,7 +62,7 @@ some-same (x ∷ xs) (y ∷ ys) e =
     both a b more others e f = cc
 
 -- the start pages told them
-told-still : Laws → (allows : List ℕ → ℕ → List ℕ → List ℕ → Type 0) (starts : List Address) (publishers : List Publisher) (versions : List ℕ) (told : List Page) (events : List Event) → AnswerStill allows starts publishers versions → ReadsStarts starts told events → AllByRecursion (IsAnyAnswer allows) events
+told-still : Laws → (allows : List ℕ → ℕ → List ℕ → List ℕ → Type 0) (starts : List Address) (publishers : List Publisher) (versions : List ℕ) (told : List Page) (events : List PoolEvent) → AnswerStill allows starts publishers versions → ReadsStarts starts told events → AllByRecursion (IsAnyAnswer allows) events
     → versions_of told ≡ map (λ n. Some n) versions
 told-still laws allows [] [] [] [] events s r all = refl
 told-still laws allows [] [] [] (page ∷ told) events s r all = absurd r
@@ -72,7 +72,7 @@ told-still laws allows (start ∷ starts) [] versions told events s r all = absu
 told-still laws allows (start ∷ starts) (p ∷ publishers) [] told events s r all = absurd s
 told-still laws allows (start ∷ starts) (p ∷ publishers) (version ∷ versions) [] events s r all = absurd r
 told-still laws allows (start ∷ starts) (p ∷ publishers) (version ∷ versions) (page ∷ told) events s r all =
-    let here = subst (λ (l : List Event). AllByRecursion (IsAnyAnswer allows) l) r.2 all in
+    let here = subst (λ (l : List PoolEvent). AllByRecursion (IsAnyAnswer allows) l) r.2 all in
     let came : IsAnswerOfAny allows (start_ask start) r.3.reply = at-last (IsAnyAnswer allows) (Came (start_ask start) r.3.reply) r.0 r.3.last (all_front (IsAnyAnswer allows) r.0 r.1 here) in
     let b : IsBodyOver p.history p.config (only version) start r.3.reply.body = came.over p.history p.config (only version) s.0.is_honest in
     let read = reads laws.given laws.answered laws.only laws.worlds laws.forms laws.pages laws.kept laws.addresses p.history p.config s.0.is_history s.0.is_config start r.3.reply.body page b.is_body r.3.taken in
@@ -140,7 +140,7 @@ module _ (laws : Laws) (traffic : TrafficLaws) (valid : VersionsAreValid) (allow
         is_over = s.answers.is_honest;
       }
 
-  behind : (first later : List Event) (pool : Pooled) → RunsPool allows options since now (first ++ later) pool → AsksAt starts (first ++ later) → (told : List Page) (reads : ReadsStarts starts told first) → ChoiceBehind joint_sources still-offer q starts first later told reads
+  behind : (first later : List PoolEvent) (pool : Pooled) → RunsPool allows options since now (first ++ later) pool → AsksAt starts (first ++ later) → (told : List Page) (reads : ReadsStarts starts told first) → ChoiceBehind joint_sources still-offer q starts first later told reads
   behind first later pool r asks told reads =
       let c = choice-behind laws valid allows options since now lawful limit publishers starts some apart honest q first later pool r asks told reads in
       let any = all_front (IsAnyAnswer allows) first later (any-of laws valid allows options since now lawful limit publishers starts some apart honest q (first ++ later) pool r) in

@@ -26,10 +26,11 @@ use Rattle.pool_laws.specs.Answers.{IsBodyOf}
 use Rattle.join_core.specs.Blocks.{IsBlockSize, is_askable}
 use Rattle.join_core.specs.Rounds.{RoundData, round_of_one, AreFirst}
 use Rattle.join_core.specs.Worlds.{World, IsWorld, IsOneServer, IsPageAt}
+use Rattle.plan_laws.proofs.Servers.{one-address}
 use Rattle.plan_laws.specs.JointWorlds.{addresses_at}
 use Rattle.plan_laws.specs.Servers.{asked_at, server_world}
 use Rattle.joint_pages.specs.Truths.{IsPageOfAll}
-use Rattle.tpf_client.specs.Traffic.{Event, Came}
+use Rattle.tpf_client.specs.Traffic.{PoolEvent, Came}
 use Rattle.tpf_client.specs.Told.{told_at}
 use Rattle.tpf_client.specs.Starts.{start_ask, ReadsStart, ReadsStarts, forms_of, versions_of}
 use Rattle.tpf_client.specs.Offers.{Publisher, IsVersionOf, AreVersions, is_served, are_served, worlds_of}
@@ -48,12 +49,6 @@ unfolding is_served
 is-served p start version e = e
 
 -- ---- pages of other servers
-
-one-address : (one other : Address) → round_of_one one ≡ round_of_one other → one ≡ other
-one-address one other e = same (ap (λ (r : RoundData). r.addresses) e)
-  where
-    same : one ∷ [] ≡ other ∷ [] → one ≡ other
-    same f = cc
 
 page-authority : (base : Address) (s : Selection) (k : ℕ) (address : Address) → address ≡ address_of_page base s k → authority_of base ≡ authority_of address
 unfolding address_of_page
@@ -95,7 +90,7 @@ module _ (laws : Laws) (allows : List ℕ → ℕ → List ℕ → List ℕ → 
     served : is_served p start version ≡ true
     base : ShareAuthority start p.config.base
 
-  serves-start : (p : Publisher) (start : Address) (page : Page) (events : List Event) → AnswersAs allows wire start p → ReadsStart start page events → AllByRecursion (IsAnyAnswer allows) events → ServesStart p start page
+  serves-start : (p : Publisher) (start : Address) (page : Page) (events : List PoolEvent) → AnswersAs allows wire start p → ReadsStart start page events → AllByRecursion (IsAnyAnswer allows) events → ServesStart p start page
   serves-start p start page events a s all =
       let came : IsAnswerOfAny allows (start_ask start) s.reply = at-last (IsAnyAnswer allows) (Came (start_ask start) s.reply) events s.last all in
       let b : IsBodyOf p.history p.config start s.reply.body = came.body p.history p.config a.is_honest in
@@ -214,12 +209,12 @@ module _ (laws : Laws) (allows : List ℕ → ℕ → List ℕ → List ℕ → 
       pages = λ apart ask reply any came takes home m own e. all-pages apart ask reply any came takes e home m own;
     }
 
-  pub together : (publishers : List Publisher) (starts : List Address) (told : List Page) (events : List Event) → AllZip (AnswersAs allows wire) starts publishers → ReadsStarts starts told events → AllByRecursion (IsAnyAnswer allows) events → Together publishers starts told
+  pub together : (publishers : List Publisher) (starts : List Address) (told : List Page) (events : List PoolEvent) → AllZip (AnswersAs allows wire) starts publishers → ReadsStarts starts told events → AllByRecursion (IsAnyAnswer allows) events → Together publishers starts told
   together [] [] [] events a r all = none-together
   together [] [] (page ∷ told) events a r all = absurd r
   together [] (start ∷ starts) told events a r all = absurd a
   together (p ∷ publishers) [] told events a r all = absurd a
   together (p ∷ publishers) (start ∷ starts) [] events a r all = absurd r
   together (p ∷ publishers) (start ∷ starts) (page ∷ told) events a r all =
-      let here = subst (λ (l : List Event). AllByRecursion (IsAnyAnswer allows) l) r.2 all in
+      let here = subst (λ (l : List PoolEvent). AllByRecursion (IsAnyAnswer allows) l) r.2 all in
       one-more p start page publishers starts told a.0 (serves-start p start page r.0 a.0 r.3 (all_front (IsAnyAnswer allows) r.0 r.1 here)) (together publishers starts told r.1 a.1 r.4 (all_back (IsAnyAnswer allows) r.0 r.1 here))

@@ -4,6 +4,7 @@ use Rattle.std.specs.List.{AllByRecursion, AllZip}
 use Rattle.tpf_base.specs.Addresses.{Address, address_text, authority_of}
 use Rattle.tpf_base.specs.Links.{WireState}
 use Rattle.tpf_base.specs.Marks.{Served}
+use Rattle.template_fill.specs.declared.limits.TheConstants.{LONGEST_START}
 use Rattle.template_fill.specs.Answered.{is_answered}
 use Rattle.template_fill.specs.Bodies.{version_of}
 use Rattle.bgp_core.specs.Queries.{QueryData}
@@ -15,9 +16,9 @@ use Rattle.tpf_client.specs.Ends.{AreHonestServers}
 use Rattle.tpf_client.specs.Plans.{AtEach, AtChosen, IsSmallByAll, RisesFew, answer_at}
 use Rattle.tpf_client.specs.Still.{AnswerStill, IsWant}
 
--- the text of a start has at most 65536 bytes
+-- the text of a start has at most LONGEST_START bytes
 abbrev pub IsShortStart : Address → Type 0
-IsShortStart start = length (address_text start) ≤ 65536
+IsShortStart start = length (address_text start) ≤ LONGEST_START
 
 -- ---- data that do not change
 

@@ -1,5 +1,5 @@
 // The call.
-ghost use Rattle.std.specs.Prelude.{ℕ, ◌≡◌, ◌≤◌, ◌<◌, ◌^◌, length, true, IfOk, IfErr, OnErr, None};
+ghost use Rattle.std.specs.Prelude.{ℕ, ◌≡◌, ◌≤◌, ◌<◌, length, true, IfOk, IfErr, OnErr, None};
 ghost use Rattle.tpf_base.specs.Causes.{Rose};
 ghost use Rattle.tpf_base.specs.Links.{SameAllowed};
 ghost use Rattle.tpf_client.specs.Calls.{most_over, WritesResult, WritesPrefix};
@@ -15,20 +15,11 @@ ghost use Rattle.federated_query.specs.Limits.{ServersFit, SucceedsWithin};
 
 use bgp_core::Query;
 use federation::Federation;
-use plan_laws::{joint_plans_are_read, plans_are_read};
 use std::alloc::Global;
 use std::sync::Wait;
-use template_fill::{WebAddress, pages_are_answered, versions_are_valid};
+use template_fill::WebAddress;
 use tpf_base::{Dial, Sink};
-use tpf_client::{
-    ClientFault, Options, Report, evaluate_to, is_lawful, solutions_rest_on_laws,
-    traffic_rests_on_laws,
-};
-
-/// A bound of a body is below 2^64. It does nothing.
-fn is_bounded(max_body: u64)
-    ensures { max_body < 2 ^ 64 }
-{}
+use tpf_client::{ClientFault, Options, Report, evaluate_to, laws};
 
 /// Asks the servers of several start pages one query, and writes the text of the solutions over the union of what they hold
 /// (Triple Pattern Fragments; SPARQL 1.1 Query Results JSON Format). Conditions: there is a start, and no two starts have one
@@ -100,13 +91,13 @@ pub fn federate<R: Wait, W: Dial, K: Sink>(
     ensures sink { LeavesSink (K.state out.old) (K.state out.new) result }
     ensures allowed { SameAllowed (W.allows wire.old) (W.allows wire.new) }
 {
-    is_lawful(wire);
-    solutions_rest_on_laws();
-    traffic_rests_on_laws(wire);
-    is_bounded(options.max_body);
-    plans_are_read();
-    joint_plans_are_read();
-    pages_are_answered();
-    versions_are_valid();
+    laws::is_lawful(wire);
+    laws::solutions_rest_on_laws();
+    laws::traffic_rests_on_laws(wire);
+    laws::is_bounded(options.max_body);
+    plan_laws::plans_are_read();
+    plan_laws::joint_plans_are_read();
+    template_fill::laws::pages_are_answered();
+    template_fill::laws::versions_are_valid();
     evaluate_to::<_, Federation, _, _>(rt, alloc, query, starts, options, wire, out)
 }

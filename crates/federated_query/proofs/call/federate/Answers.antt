@@ -2,15 +2,16 @@
 use Rattle.std.proofs.Common.{ℕ, ◌≡◌, true, List, length}
 use Rattle.std.proofs.Math.Nat.{le_refl}
 use Rattle.std.specs.Prelude.{IfErr}
+use Rattle.std.proofs.lemmas.Result.{IfOk-weaker, IfErr-weaker}
 use Rattle.tpf_base.specs.Causes.{Rose}
 use Rattle.request_pool.specs.Pools.{Pooled}
-use Rattle.tpf_client.specs.Traffic.{Event}
+use Rattle.tpf_client.specs.Traffic.{PoolEvent}
 use Rattle.tpf_client.specs.Calls.{RunsPool, AreThese, most_over}
 use Rattle.tpf_client.specs.Ends.{AreHonestServers, servers_ends}
 use Rattle.tpf_client.specs.Ended.{WritesOverEnds}
 use Rattle.tpf_client.specs.Offers.{Publisher, servers_offer}
 use Rattle.tpf_client.specs.Plans.{RisesFew, PlanFits, MayStill}
-use Rattle.tpf_client.proofs.Shutting.{if-ok, if-err, on-err-of}
+use Rattle.tpf_client.proofs.Shutting.{on-err-of}
 use Rattle.tpf_client.proofs.Planned.{these-run}
 use Rattle.tpf_client.proofs.Clauses.{writes-over}
 use Rattle.tpf_client.proofs.Completing.{completes}
@@ -34,7 +35,7 @@ ended g c =
     (most_over c.args.options.now c.args.query.now (length c.args.starts.now)) (le_refl (most_over c.args.options.now c.args.query.now (length c.args.starts.now))) c.evaluate_to.result (g.K.Sink.state c.args.out.now) (g.K.Sink.state c.evaluate_to.new.out) c.evaluate_to.ensures.ended
 
 -- what happened in it is a run of the pool
-abbrev runs : (g : given.Over) (c : goal.After-evaluate_to g) (events : List Event) (pool : Pooled) → AreThese (ended g c).acts.happened.events (ended g c).acts.happened.pool events pool
+abbrev runs : (g : given.Over) (c : goal.After-evaluate_to g) (events : List PoolEvent) (pool : Pooled) → AreThese (ended g c).acts.happened.events (ended g c).acts.happened.pool events pool
     → RunsPool (g.W.Wire.allows c.args.wire.now) c.args.options.now (g.W.Wire.state c.args.wire.now) (g.W.Wire.state c.evaluate_to.new.wire) events pool
 runs g c events pool is = these-run (g.W.Wire.allows c.args.wire.now) c.args.options.now (g.W.Wire.state c.args.wire.now) (g.W.Wire.state c.evaluate_to.new.wire) c.args.starts.now (ended g c).acts.happened events pool is
 
@@ -43,7 +44,7 @@ returns-clause-ended g c = ended g c
 
 pub returns-clause-headline : goal.returns-clause-headline
 returns-clause-headline g c = λ publishers honest.
-    if-ok c.evaluate_to.result _ _ (λ report w.
+    IfOk-weaker c.evaluate_to.result _ _ (λ report w.
     solutions-written joint_sources (servers_offer publishers c.args.query.now c.args.starts.now) (g.W.Wire.allows c.args.wire.now) c.args.options.now (g.W.Wire.state c.args.wire.now) (g.W.Wire.state c.evaluate_to.new.wire) c.args.starts.now c.args.query.now (covers g c publishers honest) _ (runs g c) report _ _ w) (ended g c).ok
 
 pub returns-clause-prefix : goal.returns-clause-prefix
@@ -70,12 +71,12 @@ returns-clause-limits g c = λ publishers honest alive rise few within none.
     (plan-fits c.joint_plans_are_read.ensures c.plans_are_read.ensures.start c.pages_are_answered.ensures.answered (g.W.Wire.allows c.args.wire.now) (g.W.Wire.state c.args.wire.now) publishers c.args.query.now c.args.starts.now c.args.options.now rise c.requires.starts c.requires.apart honest within) none
 
 pub returns-clause-version : goal.returns-clause-version
-returns-clause-version g c = if-ok c.evaluate_to.result _ _ (λ report w. w.returns.is_version) (ended g c).ok
+returns-clause-version g c = IfOk-weaker c.evaluate_to.result _ _ (λ report w. w.returns.is_version) (ended g c).ok
 
 pub returns-clause-still : goal.returns-clause-still
 returns-clause-still g c = λ publishers versions honest still alive rise few fits none.
     still-wants c.solutions_rest_on_laws.ensures c.traffic_rests_on_laws.ensures c.versions_are_valid.ensures.versions (g.W.Wire.allows c.args.wire.now) c.args.options.now (g.W.Wire.state c.args.wire.now) (g.W.Wire.state c.evaluate_to.new.wire) c.is_lawful.ensures c.is_bounded.ensures publishers c.args.starts.now c.requires.starts c.requires.apart honest c.args.query.now versions still
-    (ended g c).acts.happened c.evaluate_to.result _ _ alive rise few fits (if-err c.evaluate_to.result _ _ (λ fault w. w.fails.some) (ended g c).err) (λ e. none (c.evaluate_to.ensures.sink.sink e))
+    (ended g c).acts.happened c.evaluate_to.result _ _ alive rise few fits (IfErr-weaker c.evaluate_to.result _ _ (λ fault w. w.fails.some) (ended g c).err) (λ e. none (c.evaluate_to.ensures.sink.sink e))
 
 pub returns-clause-still_limits : goal.returns-clause-still_limits
 returns-clause-still_limits g c = λ publishers versions honest still alive rise few within none.
