@@ -1,11 +1,12 @@
 -- What the call of a query with groups did on its wire.
-use Rattle.std.proofs.Common.{ℕ, ◌≡◌, ◌≤◌, ◌+◌, ◌-◌, ◌++◌, true, List, [], ◌∷◌, None, refl, sym, ap, subst, ◌∙◌, arith, append-nil}
+use Rattle.std.proofs.Common.{ℕ, ◌≡◌, ◌≤◌, ◌+◌, ◌-◌, ◌++◌, true, List, [], ◌∷◌, None, refl, sym, ap, subst, ◌∙◌, arith}
 use Rattle.std.specs.Prelude.{Result, Ok, Err, IfOk, IfErr, IsErrOf}
 use Rattle.list_laws.proofs.Each.{all_so}
 use Rattle.rdf_terms.specs.declared.term.Triple.{Triple}
 use Rattle.tpf_base.specs.Addresses.{Address}
 use Rattle.tpf_base.specs.Causes.{Rose}
 use Rattle.tpf_base.specs.Links.{WireState, Nature}
+use Rattle.tpf_base.specs.Wrote.{SinkState}
 use Rattle.template_fill.specs.Metadata.{Config}
 use Rattle.bgp_core.specs.declared.pattern.Pattern.{Pattern}
 use Rattle.pool_laws.specs.Provoking.{SparesWire}
@@ -21,11 +22,13 @@ use Rattle.tpf_client.specs.Plans.{StaysUnprovoked}
 use Rattle.tpf_client.specs.Failing.{IsFailedOften, ForBudget, Spends, SpendsRequests}
 use Rattle.tpf_client.specs.Acts.{ActsByPlan}
 use Rattle.group_patterns.specs.Acts.{ActsOnGroups}
-use Rattle.group_patterns.specs.Blocks.{BlockRows, requests_of, version_told, left_by, GivesAll, of_block, Stops, InBlock, IsSpent, Differs, IsLacking, IsUnwritten, AsksAll, AsksSome}
-use Rattle.group_patterns.specs.Plans.{plan_over, AreVersions, IsToldByAll, group_ends, StartedByBlocks}
+use Rattle.group_patterns.specs.Blocks.{BlockRows, requests_of, version_told, left_by, GivesAll, of_block, Stops, InBlock, IsSpent, Differs, IsLacking, IsUnwritten, started_last, AsksAll, AsksSome}
+use Rattle.group_patterns.specs.Plans.{plan_over, AreVersions, IsToldByAll, group_ends}
+use Rattle.group_patterns.specs.Ended.{EndsGroups}
+use Rattle.group_patterns.specs.Asking.{AsksAndWrites, AsksAndStops}
 use Rattle.group_patterns.proofs.Wires.{Onward, onward-then, onward-more, chain-onward, chain-within, honest-then, spares-none, spares-then, Spared, chain-spares}
 use Rattle.group_patterns.proofs.Parts.{AnsweredFor, spends-both, fails-later}
-use Rattle.group_patterns.proofs.Planned.{TellEach, told-by-all, ChainDone, chain-done, chain-paid, chain-started}
+use Rattle.group_patterns.proofs.Planned.{TellEach, told-by-all, ChainDone, chain-done, chain-paid}
 use Rattle.group_patterns.proofs.Stopped.{for-block, stops-onward, CountedOver, EndDone, end-done}
 use Rattle.group_patterns.proofs.Causes.{cause-of, honest-cause-of}
 
@@ -169,7 +172,7 @@ module _ (allows : List ℕ → ℕ → List ℕ → List ℕ → Type 0) (optio
       answered-all : AnsweredFor options (plan_over p g start chain.versions) report.requests since now
       answered-all = subst (λ (n : ℕ). AnsweredFor options (plan_over p g start chain.versions) n since now) (sym a.requests) chain.answered
 
-      counted-all : since.nature.lively ≡ true → CountedOver p allows options start g chain.versions since now
+      counted-all : since.nature.lively ≡ true → CountedOver p allows options start g chain.versions (requests_of a.done) since now
       counted-all alive =
           let k = chain.answered.paced alive in
           let f = k.few in
@@ -178,19 +181,12 @@ module _ (allows : List ℕ → ℕ → List ℕ → List ℕ → Type 0) (optio
           record {
             rises = k.rises;
             rose = k.rose;
-            started = requests_of a.done;
-            is_started = record {
-              asked = blocks_of (group_tree g);
-              rest = [];
-              blocks_are = sym (append-nil (blocks_of (group_tree g)));
-              turns = chain-started allows options start g.names options.budget (blocks_of (group_tree g)) a.done since now a.gives;
-            };
             few = f;
             dials = omega (arith, f, d);
             given = omega (arith, f, h);
           }
 
-    plan-ok : ActsByPlan allows (group_ends g start) (StartedByBlocks allows options g since now) options (Ok report) (λ told. told) since now
+    plan-ok : ActsByPlan allows (group_ends g start) (λ started. started ≡ requests_of a.done) options (Ok report) (λ told. told) since now
     plan-ok = record {
       requests = λ p honest.
           let k = answered-all p honest in
@@ -220,8 +216,8 @@ module _ (allows : List ℕ → ℕ → List ℕ → List ℕ → Type 0) (optio
             is_choice = are-versions p honest;
             rises = k.rises;
             rose = k.rose;
-            started = k.started;
-            is_started = k.is_started;
+            started = requests_of a.done;
+            is_started = refl;
             few = k.few;
             dials = k.dials;
             given = k.given;
@@ -242,10 +238,13 @@ module _ (allows : List ℕ → ℕ → List ℕ → List ℕ → Type 0) (optio
     }
 
   module _ (fault : ClientFault) (a : AsksSome allows options start g.names (blocks_of (group_tree g)) fault since now) where
-    ended : (p : Publisher) → IsHonestWire allows start p.history p.config since → EndDone p allows options start g fault since now
+    abbrev all-started : ℕ
+    all-started = requests_of a.done + started_last allows options start g.names a.done a.rest fault a.between now a.stops
+
+    ended : (p : Publisher) → IsHonestWire allows start p.history p.config since → EndDone p allows options start g a.done all-started fault since now
     ended p honest = end-done p allows options start g fault since now honest a (chain-done p allows options start g.names options.budget a.asked a.done since a.between a.gives honest)
 
-    plan-err : ActsByPlan allows (group_ends g start) (StartedByBlocks allows options g since now) options (Err fault) (λ (told : Report). told) since now
+    abbrev plan-err : ActsByPlan allows (group_ends g start) (λ started. started ≡ all-started) options (Err fault) (λ (told : Report). told) since now
     plan-err = record {
       requests = λ p honest. tt;
       planned = λ p honest. record { choice = (ended p honest).versions; is_choice = (ended p honest).are_versions; few = (ended p honest).done.tries };
@@ -264,8 +263,8 @@ module _ (allows : List ℕ → ℕ → List ℕ → List ℕ → Type 0) (optio
             is_choice = (ended p honest).are_versions;
             rises = k.rises;
             rose = k.rose;
-            started = k.started;
-            is_started = k.is_started;
+            started = all-started;
+            is_started = refl;
             few = k.few;
             dials = k.dials;
             given = k.given;
@@ -283,7 +282,7 @@ module _ (allows : List ℕ → ℕ → List ℕ → List ℕ → Type 0) (optio
     }
 
 module _ (allows : List ℕ → ℕ → List ℕ → List ℕ → Type 0) (options : Options) (start : Address) (g : GroupData) (since now : WireState) (before after : ℕ) where
-  acts-ok : (report : Report) → AsksAll allows options start g.names (blocks_of (group_tree g)) report since now → ActsOnGroups allows options start g (Ok report) since now before after
+  abbrev acts-ok : (report : Report) → AsksAll allows options start g.names (blocks_of (group_tree g)) report since now → ActsOnGroups allows options start g (Ok report) since now before after
   acts-ok report a =
       let spent = requests_of a.done in
       let on = chain-onward allows options start g.names options.budget (blocks_of (group_tree g)) a.done since now a.gives in
@@ -304,13 +303,14 @@ module _ (allows : List ℕ → ℕ → List ℕ → List ℕ → Type 0) (optio
         stops = tt;
         no_block = λ none. chain-nothing allows options start g.names options.budget (blocks_of (group_tree g)) a.done since now none a.gives;
         plan = plan-ok allows options start g since now report a;
+        one_told = λ p honest. tt;
         cause = tt;
         honest_cause = λ history config honest. tt;
         failed_often = λ alive. tt;
         spent_requests = tt;
       }
 
-  acts-err : (fault : ClientFault) → (fault ≡ faults.Sink → Rose before after) → AsksSome allows options start g.names (blocks_of (group_tree g)) fault since now → ActsOnGroups allows options start g (Err fault) since now before after
+  abbrev acts-err : (fault : ClientFault) → (fault ≡ faults.Sink → Rose before after) → AsksSome allows options start g.names (blocks_of (group_tree g)) fault since now → ActsOnGroups allows options start g (Err fault) since now before after
   acts-err fault sunk a =
       let on = some-onward allows options start g.names (blocks_of (group_tree g)) fault since now a in
       record {
@@ -328,13 +328,21 @@ module _ (allows : List ℕ → ℕ → List ℕ → List ℕ → Type 0) (optio
         stops = a;
         no_block = λ none. some-nothing allows options start g.names (blocks_of (group_tree g)) fault since now a none;
         plan = plan-err allows options start g since now fault a;
+        one_told = λ p honest. (ended allows options start g since now fault a p honest).told;
         cause = cause-of allows options start g.names (blocks_of (group_tree g)) fault since now before after sunk a;
         honest_cause = λ history config honest. honest-cause-of allows options start g fault since now history config honest a;
         failed_often = λ alive. some-failed allows options start g.names (blocks_of (group_tree g)) fault since now a alive;
         spent_requests = some-spent allows options start g.names (blocks_of (group_tree g)) fault since now a;
       }
 
-  pub acts-on-groups : (result : Result Report ClientFault) → (IsErrOf result faults.Sink → Rose before after) → IfOk result (λ report. AsksAll allows options start g.names (blocks_of (group_tree g)) report since now)
-      → IfErr result (λ fault. AsksSome allows options start g.names (blocks_of (group_tree g)) fault since now) → ActsOnGroups allows options start g result since now before after
-  acts-on-groups (Ok report) sunk ok err = acts-ok report ok
-  acts-on-groups (Err fault) sunk ok err = acts-err fault (λ e. sunk (let r : ◌≡◌ {A = Result Report ClientFault} (Err fault) (Err faults.Sink) = ap (λ (f : ClientFault). let x : Result Report ClientFault = Err f in x) e in r)) err
+-- ---- how it ended
+
+module _ (allows : List ℕ → ℕ → List ℕ → List ℕ → Type 0) (options : Options) (start : Address) (g : GroupData) (since now : WireState) (out out' : SinkState) where
+  pub ends-groups : (result : Result Report ClientFault) → (IsErrOf result faults.Sink → Rose out.faults out'.faults) → IfOk result (λ report. AsksAndWrites allows options start g report since now out.taken out'.taken)
+      → IfErr result (λ fault. AsksAndStops allows options start g fault since now out.taken out'.taken) → EndsGroups allows options start g result since now out out'
+  ends-groups (Ok report) sunk ok err = record { acts = acts-ok allows options start g since now out.faults out'.faults report ok.asks; ok = ok.writes; err = tt }
+  ends-groups (Err fault) sunk ok err = record {
+    acts = acts-err allows options start g since now out.faults out'.faults fault (λ e. sunk (let r : ◌≡◌ {A = Result Report ClientFault} (Err fault) (Err faults.Sink) = ap (λ (f : ClientFault). let x : Result Report ClientFault = Err f in x) e in r)) err.asks;
+    ok = tt;
+    err = err.front;
+  }

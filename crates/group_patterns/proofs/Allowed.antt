@@ -10,7 +10,7 @@ use Rattle.request_pool.specs.Pools.{Pooled, empty_pool}
 use Rattle.tpf_client.specs.declared.options.Options.{Options}
 use Rattle.tpf_client.specs.declared.options.Report.{Report}
 use Rattle.tpf_client.specs.declared.fault.ClientFault.{ClientFault}
-use Rattle.tpf_client.specs.Traffic.{Event}
+use Rattle.tpf_client.specs.Traffic.{PoolEvent}
 use Rattle.tpf_client.specs.Calls.{RunsPool, Happened, most_asked, IsCause}
 use Rattle.tpf_client.specs.Honest.{IsHonestWire}
 use Rattle.tpf_client.specs.Offers.{Publisher, Offer, offer_in_blocks}
@@ -52,6 +52,9 @@ module _ (old new : List ℕ → ℕ → List ℕ → List ℕ → Type 0) (same
     few = h.few;
   }
 
+  publisher-so : (start : Address) (p : Publisher) (w : WireState) → IsHonestWire old start p.history p.config w → IsHonestWire new start p.history p.config w
+  publisher-so start p w h = honest-so start p.history p.config w h
+
   answers-so : (start : Address) (p : Publisher) (version : ℕ) → AnswersOver old start p version → AnswersOver new start p version
   answers-so start p version a = record {
     is_history = a.is_history;
@@ -62,7 +65,7 @@ module _ (old new : List ℕ → ℕ → List ℕ → List ℕ → Type 0) (same
   }
 
   module _ (options : Options) (since now : WireState) where
-    runs-so : (events : List Event) (pool : Pooled) → RunsPool new options since now events pool → RunsPool old options since now events pool
+    runs-so : (events : List PoolEvent) (pool : Pooled) → RunsPool new options since now events pool → RunsPool old options since now events pool
     runs-so events pool r = record {
       between = r.between;
       travels = travels-allowed old new events (empty_pool options.links options.retries options.budget options.max_body) pool since r.between same r.travels;
@@ -104,7 +107,7 @@ module _ (old new : List ℕ → ℕ → List ℕ → List ℕ → Type 0) (same
         unprovoked = λ p honest. a.plan.unprovoked p (by p honest);
       }
 
-      pub acts-so : ActsOnWire old (ends_in_blocks options.block q start) options (start ∷ []) (most_asked options q) (reported told r) (λ report. report) since now
+      abbrev pub acts-so : ActsOnWire old (ends_in_blocks options.block q start) options (start ∷ []) (most_asked options q) (reported told r) (λ report. report) since now
       acts-so = record {
         happened = happened-so (start ∷ []) a.happened;
         closed = a.closed;
@@ -134,10 +137,10 @@ module _ (old new : List ℕ → ℕ → List ℕ → List ℕ → Type 0) (same
   gives-so options start q b since now g = record {
     some = g.some;
     acts = acts-so options since now start q (λ report. report) (Ok b.report) g.acts;
+    returns = g.returns;
     solutions = λ history config honest. g.solutions history config (honest-so start history config since honest);
     paced = λ p version over. g.paced p version (answers-so start p version over);
     width = g.width;
-    count = g.count;
     alone = g.alone;
   }
 
@@ -145,6 +148,7 @@ module _ (old new : List ℕ → ℕ → List ℕ → List ℕ → Type 0) (same
   ends-so options start q fault since now e = record {
     some = e.some;
     acts = acts-so options since now start q (λ report. report) (Err fault) e.acts;
+    fails = record { some = e.fails.some; over = λ p honest. e.fails.over p (publisher-so start p since honest) };
     still = λ p version over. e.still p version (answers-so start p version over);
     no_sink = e.no_sink;
     alone = e.alone;

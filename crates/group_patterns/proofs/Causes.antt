@@ -16,7 +16,7 @@ use Rattle.group_query.specs.Trees.{GroupData, group_tree, blocks_of, block_quer
 use Rattle.tpf_client.specs.declared.options.Options.{Options}
 use Rattle.tpf_client.specs.declared.fault.ClientFault.{ClientFault}
 use Rattle.tpf_client.specs.declared.fault.ClientFault.TheVariants as faults
-use Rattle.tpf_client.specs.Traffic.{Event}
+use Rattle.tpf_client.specs.Traffic.{PoolEvent}
 use Rattle.tpf_client.specs.Calls.{IsReceived, IsCause}
 use Rattle.tpf_client.specs.Honest.{IsHonestWire}
 use Rattle.tpf_client.specs.Offers.{Publisher, publisher, IsVersionOf, server_offer, addresses_of}
@@ -34,10 +34,10 @@ module _ (allows : List ℕ → ℕ → List ℕ → List ℕ → Type 0) (optio
   abbrev own-options : Options
   own-options = with_budget options left
 
-  abbrev received-in : (events : List Event) (received : List ℕ) → IsReceived own-options events between now received → IsReceivedIn options.max_body since now received
+  abbrev received-in : (events : List PoolEvent) (received : List ℕ) → IsReceived own-options events between now received → IsReceivedIn options.max_body since now received
   received-in events received r = record { address = r.ask.address; on = r.on; fresh = let a = moves.given in let b = r.fresh in omega (arith, a, b); below = r.below }
 
-  own-cause : (events : List Event) (pool : Pooled) (own : ClientFault) (before after : ℕ) → own ≢ faults.Sink → IsCause own-options events pool between now own → IsGroupCause options since now before after (of_block options.budget own)
+  own-cause : (events : List PoolEvent) (pool : Pooled) (own : ClientFault) (before after : ℕ) → own ≢ faults.Sink → IsCause own-options events pool between now own → IsGroupCause options since now before after (of_block options.budget own)
   own-cause events pool faults.Exchange before after s c = rose-later 1 since.faults between.faults now.faults moves.faults c
   own-cause events pool faults.Stalled before after s c = (c.0, λ alive. c.1 (ap (λ (x : Nature). x.lively) moves.nature ∙ alive))
   own-cause events pool (faults.Cut received) before after s c = record { is_received = received-in events received c.is_received; ended = c.ended; more = c.more }

@@ -1,6 +1,6 @@
 -- What a call answers, made from what its last part answers.
-use Rattle.std.proofs.Common.{ℕ, ◌≡◌, inl, inr, List, [], length, Option, refl, ap, sym, subst, ◌∙◌, append-nil}
-use Rattle.std.specs.Prelude.{Result, Ok, Err, IfErr, OnErr, IsErrOf}
+use Rattle.std.proofs.Common.{ℕ, ◌≡◌, inl, inr, List, [], length, Option, refl, sym, subst, ◌∙◌, append-nil}
+use Rattle.std.specs.Prelude.{Result, Ok, Err, OnErr}
 use Rattle.std.specs.Io.KnownBytes.{Appends}
 use Rattle.tpf_base.specs.Addresses.{Address}
 use Rattle.tpf_base.specs.Causes.{counted_by}
@@ -16,40 +16,27 @@ use Rattle.tpf_client.specs.declared.fault.ClientFault.{ClientFault}
 use Rattle.tpf_client.specs.declared.fault.ClientFault.TheVariants as faults
 use Rattle.tpf_client.specs.Causes.{IsLocal}
 use Rattle.group_patterns.specs.Blocks.{AsksSome, Stops, IsLacking, IsUnwritten}
-use Rattle.group_patterns.specs.Texts.{WritesGathered, WritesGatheredFront}
-use Rattle.group_patterns.specs.Asking.{Gathers}
+use Rattle.group_patterns.specs.Asking.{Gathers, AsksAndWrites, AsksAndStops}
 
 pub on-err-from : {A B : Type 0} (r : Result A B) (P Q : Type 0) → OnErr r P → (P → Q) → OnErr r Q
 on-err-from (Ok x) P Q p f = tt
 on-err-from (Err e) P Q p f = f p
 
--- no fault of the sink in a result is none in one with the same fault
-pub same-no-sink : {S T : Type 0} (fault : ClientFault) → (IsErrOf {T = S} (Err fault) faults.Sink → ⊥) → IsErrOf {T = T} (Err fault) faults.Sink → ⊥
-same-no-sink {S} {T} fault s h =
-    let t : ◌≡◌ {A = Result T ClientFault} (Err fault) (Err faults.Sink) = h in
-    let is : fault ≡ faults.Sink = cc in
-    s (ap (λ (z : ClientFault). let r : Result S ClientFault = Err z in r) is)
-
-pub lacking-no-sink : {T : Type 0} (fault : ClientFault) → fault ≡ faults.OutOfMemory → IsErrOf {T = T} (Err fault) faults.Sink → ⊥
-lacking-no-sink {T} fault e h = let t : ◌≡◌ {A = Result T ClientFault} (Err fault) (Err faults.Sink) = h in cc
-
-pub only-lacking : {T : Type 0} (r : Result T ClientFault) → IfErr r (λ fault. fault ≡ faults.OutOfMemory) → IsErrOf r faults.Sink → ⊥
-only-lacking {T} (Ok x) e h = let t : ◌≡◌ {A = Result T ClientFault} (Ok x) (Err faults.Sink) = h in cc
-only-lacking (Err fault) e h = lacking-no-sink fault e h
-
 module _ (allows : List ℕ → ℕ → List ℕ → List ℕ → Type 0) (options : Options) (start : Address) (g : GroupData) (u w : WireState) (t t' : Option (List ℕ)) where
-  pub none-shown : (fault : ClientFault) → AsksSome allows options start g.names (blocks_of (group_tree g)) fault u w → t' ≡ t → WritesGatheredFront allows options start g fault u w t t'
-  none-shown fault a e = record { asks = a; text = inl e }
+  pub none-shown : (fault : ClientFault) → AsksSome allows options start g.names (blocks_of (group_tree g)) fault u w → t' ≡ t → AsksAndStops allows options start g fault u w t t'
+  none-shown fault a e = record { asks = a; front = inl e }
 
-  pub all-shown : (report : Report) (rows given : List Places) (q : QueryData) → given ≡ rows → q ≡ shown_query g → Gathers allows options start g report rows u w → Appends t t' (result_text q given) → WritesGathered allows options start g report u w t t'
+  pub all-shown : (report : Report) (rows given : List Places) (q : QueryData) → given ≡ rows → q ≡ shown_query g → Gathers allows options start g report rows u w → Appends t t' (result_text q given) → AsksAndWrites allows options start g report u w t t'
   all-shown report rows given q is e a b = record {
     asks = a.asks;
-    text = subst (λ (l : List Places). Appends t t' (result_text (shown_query g) l)) (is ∙ a.rows_are) (subst (λ (x : QueryData). Appends t t' (result_text x given)) e b);
-    count = subst (λ (l : List Places). report.rows ≡ counted_by (length l) 0) a.rows_are a.count;
+    writes = record {
+      text = subst (λ (l : List Places). Appends t t' (result_text (shown_query g) l)) (is ∙ a.rows_are) (subst (λ (x : QueryData). Appends t t' (result_text x given)) e b);
+      count = subst (λ (l : List Places). report.rows ≡ counted_by (length l) 0) a.rows_are a.count;
+    };
   }
 
   -- all blocks were asked, and then the sink failed or memory ran out
-  pub part-shown : (report : Report) (rows given : List Places) (q : QueryData) (fault : ClientFault) → given ≡ rows → q ≡ shown_query g → IsLocal fault → Gathers allows options start g report rows u w → AppendsPrefix t t' (result_text q given) → WritesGatheredFront allows options start g fault u w t t'
+  pub part-shown : (report : Report) (rows given : List Places) (q : QueryData) (fault : ClientFault) → given ≡ rows → q ≡ shown_query g → IsLocal fault → Gathers allows options start g report rows u w → AppendsPrefix t t' (result_text q given) → AsksAndStops allows options start g fault u w t t'
   part-shown report rows given q fault is e l a b = record {
     asks = record {
       asked = blocks_of (group_tree g);
@@ -61,7 +48,7 @@ module _ (allows : List ℕ → ℕ → List ℕ → List ℕ → Type 0) (optio
       one_version = a.asks.one_version;
       stops = stops-local fault l;
     };
-    text = inr (refl, subst (λ (x : List Places). AppendsPrefix t t' (result_text (shown_query g) x)) (is ∙ a.rows_are) (subst (λ (x : QueryData). AppendsPrefix t t' (result_text x given)) e b));
+    front = inr (refl, subst (λ (x : List Places). AppendsPrefix t t' (result_text (shown_query g) x)) (is ∙ a.rows_are) (subst (λ (x : QueryData). AppendsPrefix t t' (result_text x given)) e b));
   }
     where
       stops-local : (fault : ClientFault) → IsLocal fault → Stops allows options start g.names a.asks.done [] fault w w

@@ -8,7 +8,6 @@ use Rattle.list_laws.proofs.Options.{one_value}
 use Rattle.rdf_terms.specs.declared.term.Triple.{Triple}
 use Rattle.tpf_base.specs.Addresses.{Address}
 use Rattle.tpf_base.specs.Links.{WireState}
-use Rattle.tpf_base.specs.Wrote.{AppendsPrefix}
 use Rattle.template_fill.specs.Metadata.{Config}
 use Rattle.template_fill.specs.Bodies.{version_of}
 use Rattle.bgp_core.specs.declared.pattern.Pattern.{Pattern}
@@ -24,20 +23,21 @@ use Rattle.tpf_client.specs.Honest.{IsHonestWire}
 use Rattle.tpf_client.specs.Offers.{IsVersionOf}
 use Rattle.tpf_client.proofs.Texts.{same-written}
 use Rattle.group_patterns.specs.Blocks.{BlockRows, rows_of, version_told, TellOneVersion, with_budget, GivesRows, GivesAll}
-use Rattle.group_patterns.specs.Texts.{WritesGroup, WritesGroupPrefix, WritesGathered, WritesGatheredFront, IsReported, WritesGroupAnswers, WritesGroupAnswersFront}
+use Rattle.group_patterns.specs.Texts.{WritesGroup, WritesGroupPrefix, WritesGatheredFront, IsReported, WritesGroupAnswers, WritesGroupAnswersFront}
+use Rattle.group_patterns.specs.Asking.{AsksAndWrites, AsksAndStops}
 use Rattle.group_patterns.proofs.Wires.{row-onward, honest-then}
 
 -- ---- any wire
 
 pub group-written : (allows : List ℕ → ℕ → List ℕ → List ℕ → Type 0) (options : Options) (start : Address) (g : GroupData) (report : Report) (since now : WireState) (t u : Option (List ℕ))
-    → WritesGathered allows options start g report since now t u → WritesGroup g report.rows t u
-group-written allows options start g report since now t u w = record { rows = gathered_answers g (rows_of w.asks.done); text = w.text; count = w.count }
+    → AsksAndWrites allows options start g report since now t u → WritesGroup g report.rows t u
+group-written allows options start g report since now t u w = record { rows = gathered_answers g (rows_of w.asks.done); text = w.writes.text; count = w.writes.count }
 
 pub prefix-written : (allows : List ℕ → ℕ → List ℕ → List ℕ → Type 0) (options : Options) (start : Address) (g : GroupData) (fault : ClientFault) (since now : WireState) (t u : Option (List ℕ))
-    → WritesGatheredFront allows options start g fault since now t u → WritesGroupPrefix g t u
-prefix-written allows options start g fault since now t u w = by w.text
+    → AsksAndStops allows options start g fault since now t u → WritesGroupPrefix g t u
+prefix-written allows options start g fault since now t u w = by w.front
   where
-    by : (u ≡ t) ⊎ ((w.asks.rest ≡ []) × AppendsPrefix t u (result_text (shown_query g) (gathered_answers g (rows_of w.asks.done)))) → WritesGroupPrefix g t u
+    by : WritesGatheredFront g w.asks.done w.asks.rest t u → WritesGroupPrefix g t u
     by (inl e) = record { rows = []; text = same-written (result_text (shown_query g) []) t u e }
     by (inr p) = record { rows = gathered_answers g (rows_of w.asks.done); text = p.1 }
 
@@ -87,7 +87,7 @@ is-reported g reported told version e (inl h) = inl (e ∙ h)
 is-reported g reported told version e (inr h) = inr (h.0, e ∙ h.1)
 
 pub answers-written : SolutionsSuffice → (allows : List ℕ → ℕ → List ℕ → List ℕ → Type 0) (options : Options) (start : Address) (g : GroupData) (report : Report) (since now : WireState) (t u : Option (List ℕ)) (history : List (List Triple)) (config : Config)
-    → IsHonestWire allows start history config since → WritesGathered allows options start g report since now t u → WritesGroupAnswers history g report.version report.rows t u
+    → IsHonestWire allows start history config since → AsksAndWrites allows options start g report since now t u → WritesGroupAnswers history g report.version report.rows t u
 answers-written suffice allows options start g report since now t u history config honest w =
     let k = chain-known allows options start g.names history config options.budget (blocks_of (group_tree g)) w.asks.done since now w.asks.gives w.asks.one_version honest in
     record {
@@ -96,15 +96,15 @@ answers-written suffice allows options start g report since now t u history conf
       is_reported = is-reported g report.version (version_told w.asks.done) k.version w.asks.version k.told;
       rows = gathered_answers g (rows_of w.asks.done);
       rows_are = suffice (version_of history k.version) g (rows_of w.asks.done) k.are;
-      text = w.text;
-      count = w.count;
+      text = w.writes.text;
+      count = w.writes.count;
     }
 
 pub front-written : SolutionsSuffice → (allows : List ℕ → ℕ → List ℕ → List ℕ → Type 0) (options : Options) (start : Address) (g : GroupData) (fault : ClientFault) (since now : WireState) (t u : Option (List ℕ)) (history : List (List Triple)) (config : Config)
-    → IsHonestWire allows start history config since → WritesGatheredFront allows options start g fault since now t u → WritesGroupAnswersFront history g t u
-front-written suffice allows options start g fault since now t u history config honest w = by w.text
+    → IsHonestWire allows start history config since → AsksAndStops allows options start g fault since now t u → WritesGroupAnswersFront history g t u
+front-written suffice allows options start g fault since now t u history config honest w = by w.front
   where
-    by : (u ≡ t) ⊎ ((w.asks.rest ≡ []) × AppendsPrefix t u (result_text (shown_query g) (gathered_answers g (rows_of w.asks.done)))) → WritesGroupAnswersFront history g t u
+    by : WritesGatheredFront g w.asks.done w.asks.rest t u → WritesGroupAnswersFront history g t u
     by (inl e) =
         let all = answers (version_of history 1) g in
         record { version = 1; is_version = first-version allows start history config since honest; rows = all; rows_are = IsPermutation-refl all; text = same-written (result_text (shown_query g) all) t u e }

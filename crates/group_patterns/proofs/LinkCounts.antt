@@ -1,8 +1,9 @@
 -- Counts over the links of two parts of a call, one behind the other, and rises of a count that stands still at its last value.
-use Rattle.std.proofs.Common.{ℕ, zero, suc, ◌≡◌, ◌≤◌, ◌<◌, ◌+◌, ◌-◌, Bool, if◌then◌else◌, nat_lt, refl, ap, ◌∙◌, arith}
+use Rattle.std.proofs.Common.{ℕ, zero, suc, ◌≡◌, ◌≤◌, ◌<◌, ◌+◌, ◌-◌, Bool, if◌then◌else◌, nat_lt, ap, ◌∙◌, arith}
 use Rattle.std.proofs.lemmas.Bool.{lt-ltb, le-ltb}
 use Rattle.tpf_base.specs.Causes.{Rose, RoseBy}
 use Rattle.pool_laws.specs.Requested.{LinkRequests, over_links}
+use Rattle.pool_laws.proofs.Counts.{same_over}
 
 -- ---- rises
 
@@ -24,13 +25,6 @@ quiet-behind a b c l quiet r = quiet (omega (arith, l, r))
 
 -- ---- counts
 
-over-same : (f g : ℕ → ℕ) (first n : ℕ) → ((i : ℕ) → first ≤ i → i < first + n → f i ≡ g i) → over_links f first n ≡ over_links g first n
-over-same f g first zero h = refl
-over-same f g first (suc n) h =
-    let front : over_links f first n ≡ over_links g first n = over-same f g first n (λ i low high. h i low (omega (arith, high))) in
-    let last : f (first + n) ≡ g (first + n) = h (first + n) (omega arith) (omega arith) in
-    omega (arith, front, last)
-
 over-append : (f : ℕ → ℕ) (first m n : ℕ) → over_links f first (m + n) ≡ over_links f first m + over_links f (first + m) n
 over-append f first m zero =
     let e : m + 0 ≡ m = omega arith in
@@ -50,10 +44,6 @@ over-parts f a b c l m =
     let s : a + (b - a) ≡ b = omega (arith, l) in
     ap (λ (k : ℕ). over_links f a k) e ∙ (over-append f a (b - a) (c - b) ∙ ap (λ (k : ℕ). over_links f a (b - a) + over_links f k (c - b)) s)
 
--- over no links
-pub over-none : (f : ℕ → ℕ) (n : ℕ) → over_links f n (n - n) ≡ 0
-over-none f n = let e : n - n ≡ 0 = omega arith in ap (λ (m : ℕ). over_links f n m) e
-
 -- ---- the requests on the links of two parts
 
 -- the requests on the links below a place are those of the one, and from it on those of the other
@@ -72,7 +62,7 @@ module _ (count : LinkRequests → ℕ) (one other : ℕ → LinkRequests) (a b 
       let all : over_links (λ k. count (joined b one other k)) a (c - a) ≡ over_links (λ k. count (joined b one other k)) a (b - a) + over_links (λ k. count (joined b one other k)) b (c - b)
       = over-parts (λ k. count (joined b one other k)) a b c l m in
       let front : over_links (λ k. count (joined b one other k)) a (b - a) ≡ over_links (λ k. count (one k)) a (b - a)
-      = over-same (λ k. count (joined b one other k)) (λ k. count (one k)) a (b - a) (λ i low high. ap count (joined-before b one other i (omega (arith, high, l)))) in
+      = same_over (λ k. count (joined b one other k)) (λ k. count (one k)) a (b - a) (λ i low high. ap count (joined-before b one other i (omega (arith, high, l)))) in
       let back : over_links (λ k. count (joined b one other k)) b (c - b) ≡ over_links (λ k. count (other k)) b (c - b)
-      = over-same (λ k. count (joined b one other k)) (λ k. count (other k)) b (c - b) (λ i low high. ap count (joined-behind b one other i low)) in
+      = same_over (λ k. count (joined b one other k)) (λ k. count (other k)) b (c - b) (λ i low high. ap count (joined-behind b one other i low)) in
       omega (arith, all, front, back)

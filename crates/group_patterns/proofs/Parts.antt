@@ -14,11 +14,12 @@ use Rattle.tpf_base.specs.Links.{Link, WireState, Nature}
 use Rattle.pool_laws.specs.Failing.{FailsBy, ended_links, times_ended}
 use Rattle.pool_laws.specs.Requested.{LinkRequests, NoneWhole, TellsRequests, SentByRises, whole_requests, whole_answers, count_sent, count_answered, any}
 use Rattle.pool_laws.specs.Sending.{IsPart, Nothing, FrontOf, SendsFor}
+use Rattle.pool_laws.proofs.RequestLaws.{none_given}
 use Rattle.tpf_client.specs.declared.options.Options.{Options}
 use Rattle.tpf_client.specs.Failing.{Spends}
 use Rattle.tpf_client.specs.Plans.{SendsOnly}
 use Rattle.tpf_client.specs.Requests.{DialsAtMost, tries_of}
-use Rattle.group_patterns.proofs.LinkCounts.{rose-none, rose-later, rose-both, quiet-before, quiet-behind, over-parts, over-none, joined, joined-before, joined-behind, counted-parts}
+use Rattle.group_patterns.proofs.LinkCounts.{rose-none, rose-later, rose-both, quiet-before, quiet-behind, over-parts, joined, joined-before, joined-behind, counted-parts}
 use Rattle.group_patterns.proofs.Wires.{Onward, not-both, onward-none, stays-closed}
 
 -- ---- what was done for addresses
@@ -87,11 +88,11 @@ done-nothing options addresses w = record {
   requested = record {
     on = none-on;
     told = none-told options.max_body none-on w;
-    few = λ test. no-more (count_sent test none-on w w) ((options.retries + 1) * count_by test addresses) (over-none (λ k. count_by test (whole_requests (none-on k))) w.given);
+    few = λ test. no-more (count_sent test none-on w w) ((options.retries + 1) * count_by test addresses) (none_given (λ k. count_by test (whole_requests (none-on k))) w.given);
     rises = λ alive. record {
       failures = 0;
       all = rose-none w.faults;
-      few = no-more (count_sent any none-on w w) (length addresses + 0) (over-none (λ k. count_by any (whole_requests (none-on k))) w.given);
+      few = no-more (count_sent any none-on w w) (length addresses + 0) (none_given (λ k. count_by any (whole_requests (none-on k))) w.given);
     };
   };
   tries = let n = w.dials in omega arith;
@@ -102,9 +103,9 @@ answered-nothing options w = record {
   replied = record {
     on = none-on;
     told = none-told options.max_body none-on w;
-    few = λ test. no-more (count_sent test none-on w w) ((options.retries + 1) * count_by test []) (over-none (λ k. count_by test (whole_requests (none-on k))) w.given);
+    few = λ test. no-more (count_sent test none-on w w) ((options.retries + 1) * count_by test []) (none_given (λ k. count_by test (whole_requests (none-on k))) w.given);
     answered = λ test. omega arith;
-    exact = λ alive quiet test. let none = over-none (λ k. count_by test (whole_requests (none-on k))) w.given in omega (arith, none);
+    exact = λ alive quiet test. let none = none_given (λ k. count_by test (whole_requests (none-on k))) w.given in omega (arith, none);
   };
   each = omega arith;
   most = omega arith;

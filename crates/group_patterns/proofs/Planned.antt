@@ -18,7 +18,7 @@ use Rattle.tpf_client.specs.Requests.{DialsAtMost, tries_of}
 use Rattle.tpf_client.specs.Acts.{ActsByPlan}
 use Rattle.tpf_client.specs.Failing.{Spends}
 use Rattle.group_patterns.specs.Blocks.{BlockRows, requests_of, with_budget, GivesAll}
-use Rattle.group_patterns.specs.Plans.{plans_over, StartedInTurn}
+use Rattle.group_patterns.specs.Plans.{TellFirst, plans_over}
 use Rattle.group_patterns.proofs.Parts.{RequestedFor, DoneFor, PacesOf, RepliedFor, AnsweredFor, done-nothing, answered-nothing, spends-nothing, done-both, answers-both, spends-both}
 use Rattle.group_patterns.proofs.Wires.{row-onward, chain-onward, honest-then}
 
@@ -116,6 +116,12 @@ TellEach [] (v ∷ vs) = ⊥
 TellEach (b ∷ bs) [] = ⊥
 TellEach (b ∷ bs) (v ∷ vs) = (b.report.version ≡ Some v) × TellEach bs vs
 
+-- then they told the first of these and of those behind them
+pub tell-first : (bs : List BlockRows) (vs later : List ℕ) → TellEach bs vs → TellFirst bs (vs ++ later)
+tell-first [] vs later t = tt
+tell-first (b ∷ bs) [] later t = absurd t
+tell-first (b ∷ bs) (v ∷ vs) later t = (t.0, tell-first bs vs later t.1)
+
 -- where they told one version, it is each of these
 pub told-by-all : (told : Option ℕ) (bs : List BlockRows) (vs : List ℕ) → TellEach bs vs → AllByRecursion (λ b. b.report.version ≡ told) bs → AllByRecursion (λ version. told ≡ Some version) vs
 told-by-all told [] [] t one = tt
@@ -169,12 +175,3 @@ module _ (allows : List ℕ → ℕ → List ℕ → List ℕ → Type 0) (optio
       let on = row-onward allows options start names (block_query names ps) (with_budget options left) b u g.0 g.1 in
       let further = chain-onward allows options start names (left - b.report.requests) pss bs g.0 w g.2 in
       spends-both start b.report.requests (requests_of bs) u g.0 w on further options.max_body b.report.requests (requests_of bs) g.1.acts.paid (chain-paid (left - b.report.requests) pss bs g.0 w g.2)
-
-  -- and so many were started for them
-  pub chain-started : (left : ℕ) (pss : List (List Pattern)) (bs : List BlockRows) (u w : WireState) → GivesAll allows options start names left pss bs u w → StartedInTurn allows options left pss u w (requests_of bs)
-  chain-started left [] [] u w g = (g, refl)
-  chain-started left [] (b ∷ bs) u w g = absurd g
-  chain-started left (ps ∷ pss) [] u w g = absurd g
-  chain-started left (ps ∷ pss) (b ∷ bs) u w g =
-      let h = g.1.acts.happened in
-      (g.0, b.report.requests, requests_of bs, record { events = h.events; pool = h.pool; runs = h.runs; is_started = g.1.acts.answered.started }, chain-started (left - b.report.requests) pss bs g.0 w g.2, refl)

@@ -15,19 +15,17 @@ use Rattle.group_query.specs.declared.step.Step.{Step}
 use Rattle.group_query.specs.declared.step.Step.TheVariants as steps
 use Rattle.group_query.specs.Trees.{GroupData, group_tree, blocks_of, block_query, shown_query, tree_of, IsPostfix}
 use Rattle.group_rows.specs.Gathering.{gathered_answers}
-use Rattle.request_pool.specs.Pools.{Pooled}
-use Rattle.tpf_client.specs.Traffic.{Event}
 use Rattle.tpf_client.specs.declared.options.Options.{Options}
 use Rattle.tpf_client.specs.declared.options.Report.{Report}
 use Rattle.tpf_client.specs.declared.fault.ClientFault.{ClientFault}
 use Rattle.tpf_client.specs.declared.fault.ClientFault.TheVariants as faults
 use Rattle.tpf_client.specs.Sources.{world_sources}
-use Rattle.tpf_client.specs.Calls.{most_asked, Returns}
+use Rattle.tpf_client.specs.Calls.{most_asked}
 use Rattle.tpf_client.specs.Offers.{publisher, offer_in_blocks}
 use Rattle.tpf_client.specs.Ends.{ends_in_blocks}
 use Rattle.tpf_client.specs.Honest.{IsSolutions}
 use Rattle.tpf_client.specs.Plans.{OverHonest}
-use Rattle.tpf_client.specs.Acts.{ActsOnWire}
+use Rattle.tpf_client.specs.Ended.{GivesOverEnds}
 use Rattle.tpf_client.specs.Still.{SucceedsStill, PacesStill}
 use Rattle.tpf_client.proofs.Waiting.{same-allowed}
 use Rattle.group_patterns.specs.Blocks.{BlockRows, requests_of, with_budget, left_by, GivesRows, GivesAll, of_block, EndsBlock, Stops, InBlock, IsSpent, Differs, IsLacking, AsksSome}
@@ -43,39 +41,43 @@ have-width width [] a = tt
 have-width width (row ∷ rows) a = (sym (All-head (λ (r : Places). length r ≡ width) row rows a), have-width width rows (All-tail (λ (r : Places). length r ≡ width) row rows a))
 
 module _ (allows : List ℕ → ℕ → List ℕ → List ℕ → Type 0) (options : Options) (start : Address) (names : List (List ℕ)) (ps : List Pattern) (since now : WireState) (some : 1 ≤ options.budget) (alone : OpensGiven now) {A : Type 0} (told : A → Report) (rows : A → List Places) where
-  gave : (r : Result A ClientFault) → ActsOnWire allows (ends_in_blocks options.block (block_query names ps) start) options (start ∷ []) (most_asked options (block_query names ps)) r told since now → OverHonest allows start since (λ history config. IfOk r (λ x. IsSolutions (offer_in_blocks options.block (publisher history config) (block_query names ps) start) (told x).version (rows x))) → PacesStill allows options (block_query names ps) start since now told r
-      → (ran : List Event → Pooled → Type 0) → IfOk r (λ x. Returns ran (world_sources options.block) (block_query names ps) (start ∷ []) (told x) (rows x)) → IfOk r (λ x. GivesRows allows options start (block_query names ps) (record { report = told x; rows = rows x }) since now)
-  gave (Ok x) acts solutions paced ran returns = record {
+  -- how the call for a block ended
+  abbrev Ending : QueryData → Result A ClientFault → Type 0
+  Ending q r = GivesOverEnds allows (ends_in_blocks options.block q start) (world_sources options.block) q (start ∷ []) options (most_asked options q) r told rows since now
+
+  gave : (r : Result A ClientFault) → Ending (block_query names ps) r → OverHonest allows start since (λ history config. IfOk r (λ x. IsSolutions (offer_in_blocks options.block (publisher history config) (block_query names ps) start) (told x).version (rows x))) → PacesStill allows options (block_query names ps) start since now told r
+      → IfOk r (λ x. GivesRows allows options start (block_query names ps) (record { report = told x; rows = rows x }) since now)
+  gave (Ok x) e solutions paced = record {
     some = some;
-    acts = acts-so allows allows (same-allowed allows) options since now start (block_query names ps) told (Ok x) acts;
+    acts = acts-so allows allows (same-allowed allows) options since now start (block_query names ps) told (Ok x) e.acts;
+    returns = e.ok;
     solutions = solutions;
     paced = paced;
-    width = have-width (length names) (rows x) returns.width;
-    count = returns.count;
+    width = have-width (length names) (rows x) e.ok.width;
     alone = alone;
   }
-  gave (Err fault) acts solutions paced ran returns = tt
+  gave (Err fault) e solutions paced = tt
 
-  ended : (r : Result A ClientFault) → ActsOnWire allows (ends_in_blocks options.block (block_query names ps) start) options (start ∷ []) (most_asked options (block_query names ps)) r told since now → SucceedsStill allows options (block_query names ps) start since now ⊥ r → (IsErrOf r faults.Sink → ⊥) → IfErr r (λ fault. CallEnds allows options start names ps fault since now)
-  ended (Ok x) acts still sink = tt
-  ended (Err fault) acts still sink = Called (record {
+  ended : (r : Result A ClientFault) → Ending (block_query names ps) r → SucceedsStill allows options (block_query names ps) start since now ⊥ r → (IsErrOf r faults.Sink → ⊥) → IfErr r (λ fault. CallEnds allows options start names ps fault since now)
+  ended (Ok x) e still sink = tt
+  ended (Err fault) e still sink = Called (record {
     some = some;
-    acts = acts-so allows allows (same-allowed allows) options since now start (block_query names ps) told (Err fault) acts;
+    acts = acts-so allows allows (same-allowed allows) options since now start (block_query names ps) told (Err fault) e.acts;
+    fails = e.err;
     still = still;
-    no_sink = λ e. sink (ap (λ (f : ClientFault). let r : Result A ClientFault = Err f in r) e);
+    no_sink = λ is. sink (ap (λ (f : ClientFault). let r : Result A ClientFault = Err f in r) is);
     alone = alone;
   })
 
-  pub call-gave : (q : QueryData) → q ≡ block_query names ps → (r : Result A ClientFault) → ActsOnWire allows (ends_in_blocks options.block q start) options (start ∷ []) (most_asked options q) r told since now → OverHonest allows start since (λ history config. IfOk r (λ x. IsSolutions (offer_in_blocks options.block (publisher history config) q start) (told x).version (rows x))) → PacesStill allows options q start since now told r
-      → (ran : List Event → Pooled → Type 0) → IfOk r (λ x. Returns ran (world_sources options.block) q (start ∷ []) (told x) (rows x)) → IfOk r (λ x. GivesRows allows options start (block_query names ps) (record { report = told x; rows = rows x }) since now)
-  call-gave q e r acts solutions paced ran returns =
-      gave r (subst (λ (x : QueryData). ActsOnWire allows (ends_in_blocks options.block x start) options (start ∷ []) (most_asked options x) r told since now) e acts)
+  pub call-gave : (q : QueryData) → q ≡ block_query names ps → (r : Result A ClientFault) → Ending q r → OverHonest allows start since (λ history config. IfOk r (λ x. IsSolutions (offer_in_blocks options.block (publisher history config) q start) (told x).version (rows x))) → PacesStill allows options q start since now told r
+      → IfOk r (λ x. GivesRows allows options start (block_query names ps) (record { report = told x; rows = rows x }) since now)
+  call-gave q e r how solutions paced =
+      gave r (subst (λ (x : QueryData). Ending x r) e how)
       (subst (λ (y : QueryData). OverHonest allows start since (λ history config. IfOk r (λ x. IsSolutions (offer_in_blocks options.block (publisher history config) y start) (told x).version (rows x)))) e solutions)
       (subst (λ (y : QueryData). PacesStill allows options y start since now told r) e paced)
-      ran (subst (λ (y : QueryData). IfOk r (λ x. Returns ran (world_sources options.block) y (start ∷ []) (told x) (rows x))) e returns)
 
-  pub call-ended : (q : QueryData) → q ≡ block_query names ps → (r : Result A ClientFault) → ActsOnWire allows (ends_in_blocks options.block q start) options (start ∷ []) (most_asked options q) r told since now → SucceedsStill allows options q start since now ⊥ r → (IsErrOf r faults.Sink → ⊥) → IfErr r (λ fault. CallEnds allows options start names ps fault since now)
-  call-ended q e r acts still sink = ended r (subst (λ (x : QueryData). ActsOnWire allows (ends_in_blocks options.block x start) options (start ∷ []) (most_asked options x) r told since now) e acts) (subst (λ (y : QueryData). SucceedsStill allows options y start since now ⊥ r) e still) sink
+  pub call-ended : (q : QueryData) → q ≡ block_query names ps → (r : Result A ClientFault) → Ending q r → SucceedsStill allows options q start since now ⊥ r → (IsErrOf r faults.Sink → ⊥) → IfErr r (λ fault. CallEnds allows options start names ps fault since now)
+  call-ended q e r how still sink = ended r (subst (λ (x : QueryData). Ending x r) e how) (subst (λ (y : QueryData). SucceedsStill allows options y start since now ⊥ r) e still) sink
 
 -- ---- faults that are not the sink's
 
@@ -247,9 +249,6 @@ module _ (allows : List ℕ → ℕ → List ℕ → List ℕ → Type 0) (optio
       subst (λ (l : List (List ℕ)). P l (blocks_of (group_tree g))) (e ∙ ap (λ (x : QueryData). x.names) f) (subst (P names) blocks p)
 
 -- ---- all blocks
-
-pub within-budget : (budget : ℕ) (done : List BlockRows) (p : Progress) → IsProgress budget done p → p.left ≤ budget
-within-budget budget done p i = let h = i.left_is in omega (arith, h)
 
 module _ (allows : List ℕ → ℕ → List ℕ → List ℕ → Type 0) (options : Options) (start : Address) (g : GroupData) (p : Progress) (u w : WireState) (a : AsksBlocks allows options start g.names (blocks_of (group_tree g)) p u w) where
   pub all-width : AllByRecursion (HaveWidth (length g.names)) p.rows

@@ -4,7 +4,6 @@ use Rattle.std.specs.Prelude.{Ok, Err}
 use Rattle.std.specs.List.{AllByRecursion, Contains}
 use Rattle.std.proofs.lemmas.List.Elements.{Contains-append_left, Contains-append_right}
 use Rattle.list_laws.proofs.Each.{all_append, all_so}
-use Rattle.list_laws.proofs.Lists.{snoc_append}
 use Rattle.list_laws.proofs.Members.{at_head, all_from}
 use Rattle.list_laws.proofs.Told.{all_in}
 use Rattle.tpf_base.specs.Addresses.{Address}
@@ -19,14 +18,14 @@ use Rattle.tpf_client.specs.declared.fault.ClientFault.TheVariants as faults
 use Rattle.tpf_client.specs.Honest.{IsHonestWire}
 use Rattle.tpf_client.specs.Offers.{Publisher, IsVersionOf, server_offer, addresses_of}
 use Rattle.tpf_client.specs.Requests.{DialsAtMost, GivesAtMost, tries_of}
-use Rattle.tpf_client.specs.Plans.{AtEach, AtChosen, IsAnswerable, IsAnsweredAt, IsReadByAll, IsLongAnswer, IsPageGone, StartedIn, IsHonestCause, IsLivelyCause}
+use Rattle.tpf_client.specs.Plans.{AtEach, AtChosen, IsAnswerable, IsAnsweredAt, IsReadByAll, IsLongAnswer, IsPageGone, IsHonestCause, IsLivelyCause}
 use Rattle.tpf_client.specs.Failing.{ForBudget, SpendsPlan}
 use Rattle.tpf_client.specs.Acts.{IsHonestCauseOf, IsLivelyCauseOf, IsSpentOf}
-use Rattle.group_patterns.specs.Blocks.{BlockRows, requests_of, with_budget, left_by, GivesRows, EndsBlock, of_block, Stops, InBlock, IsSpent, Differs, IsLacking, IsUnwritten, AsksSome}
-use Rattle.group_patterns.specs.Plans.{plans_over, plan_over, AreVersions, group_offer, StartedInTurn, StartedByBlocks}
+use Rattle.group_patterns.specs.Blocks.{BlockRows, requests_of, left_by, GivesRows, EndsBlock, of_block, Stops, InBlock, IsSpent, Differs, IsLacking, IsUnwritten, started_last, AsksSome}
+use Rattle.group_patterns.specs.Plans.{TellFirst, plans_over, plan_over, AreVersions, group_offer}
 use Rattle.group_patterns.proofs.LinkCounts.{rose-none, rose-later, rose-both}
 use Rattle.group_patterns.proofs.Parts.{DoneFor, done-nothing, done-both, done-more, tries-both}
-use Rattle.group_patterns.proofs.Planned.{same-versions, plans-append, some-tries, version-asked, is-version-asked, block-done, is-told, block-answered, TellEach, ChainDone, chain-started}
+use Rattle.group_patterns.proofs.Planned.{same-versions, plans-append, some-tries, version-asked, is-version-asked, block-done, is-told, block-answered, TellEach, tell-first, ChainDone}
 use Rattle.group_patterns.proofs.Wires.{Onward, onward-none, onward-more, row-onward, end-onward, chain-onward, chain-within, honest-then}
 use Rattle.group_patterns.proofs.Known.{first-version}
 
@@ -50,18 +49,6 @@ first-chosen [] vs first later t e = cc
 first-chosen (b ∷ bs) [] first later t e = absurd t
 first-chosen (b ∷ bs) (v ∷ vs) first later t e = let same : b ≡ first = cc in (v, at_head v vs, subst (λ (x : BlockRows). x.report.version ≡ Some v) same t.0)
 
--- one block more was asked, with what the others left
-started-more : (allows : List ℕ → ℕ → List ℕ → List ℕ → Type 0) (options : Options) (left : ℕ) (pss : List (List Pattern)) (ps : List Pattern) (m own all : ℕ) (u v w : WireState)
-    → StartedInTurn allows options left pss u v all → m + all ≡ left → StartedIn allows (with_budget options m) v w own → StartedInTurn allows options left (pss ++ ps ∷ []) u w (all + own)
-started-more allows options left [] ps m own all u v w t e s =
-    let none = t.1 in
-    let is : m ≡ left = omega (arith, e, none) in
-    let from : v ≡ u = t.0 in
-    (w, own, 0, subst (λ (x : WireState). StartedIn allows (with_budget options left) x w own) from (subst (λ (n : ℕ). StartedIn allows (with_budget options n) v w own) is s), (refl, refl), omega (arith, none))
-started-more allows options left (qs ∷ pss) ps m own all u v w t e s =
-    let sum = t.5 in
-    (t.0, t.1, t.2 + own, t.3, started-more allows options (left - t.1) pss ps m own t.2 t.0 v w t.4 (omega (arith, e, sum)) s, omega (arith, sum))
-
 -- ---- the part behind the blocks that gave their rows
 
 module _ (allows : List ℕ → ℕ → List ℕ → List ℕ → Type 0) (options : Options) (start : Address) (names : List (List ℕ)) where
@@ -77,22 +64,21 @@ module _ (allows : List ℕ → ℕ → List ℕ → List ℕ → Type 0) (optio
 
 module _ (p : Publisher) (allows : List ℕ → ℕ → List ℕ → List ℕ → Type 0) (options : Options) (start : Address) (g : GroupData) where
   -- no more requests were started, dials made and links given than the plan over these versions and the rises of the faults
-  pub record CountedOver (versions : List ℕ) (since now : WireState) : Type 0 where
+  pub record CountedOver (versions : List ℕ) (started : ℕ) (since now : WireState) : Type 0 where
     pub rises : ℕ
     pub rose : RoseBy rises since.faults now.faults
-    pub started : ℕ
-    pub is_started : StartedByBlocks allows options g since now started
     pub few : started ≤ length (plan_over p g start versions) + rises
     pub dials : DialsAtMost (length (plan_over p g start versions) + rises) since now
     pub given : GivesAtMost (length (plan_over p g start versions) + rises) since now
 
-  -- what the call did by the plan over some versions of the blocks, and what its fault shows of them
-  pub record EndDone (fault : ClientFault) (since now : WireState) : Type 0 where
+  -- what the call did by the plan over some versions of the blocks, of which the first are those that the blocks told, and what its fault shows of them
+  pub record EndDone (blocks : List BlockRows) (started : ℕ) (fault : ClientFault) (since now : WireState) : Type 0 where
     pub versions : List ℕ
     pub are_versions : AreVersions p.history g versions
+    pub told : TellFirst blocks versions
     pub done : DoneFor options (plan_over p g start versions) since now
     pub cause : (c : IsHonestCause (group_offer p g start) options fault) × IsHonestCauseOf (group_offer p g start) options versions fault c
-    pub counted : since.nature.lively ≡ true → CountedOver versions since now
+    pub counted : since.nature.lively ≡ true → CountedOver versions started since now
     pub lively : since.nature.lively ≡ true → (c : IsLivelyCause (group_offer p g start) options since now fault) × IsLivelyCauseOf (group_offer p g start) options since now versions fault c
     pub spent : (s : ForBudget (SpendsPlan (group_offer p g start) options) fault) × IsSpentOf (group_offer p g start) options versions fault s
 
@@ -153,17 +139,15 @@ module _ (p : Publisher) (allows : List ℕ → ℕ → List ℕ → List ℕ �
     -- ---- counts
 
     -- what was started behind them, and how often was dialled
-    pub record CountedBehind (later : List ℕ) : Type 0 where
+    pub record CountedBehind (later : List ℕ) (own : ℕ) : Type 0 where
       pub rises : ℕ
       pub rose : RoseBy rises s.between.faults now.faults
-      pub own : ℕ
-      pub is_started : StartedByBlocks allows options g since now (requests_of s.done + own)
       pub few : own ≤ length (rest-plan later) + rises
       pub dials : DialsAtMost (length (rest-plan later) + rises) s.between now
       pub given : GivesAtMost (length (rest-plan later) + rises) s.between now
 
-    counted-with : (later : List ℕ) → since.nature.lively ≡ true → CountedBehind later → CountedOver (c.versions ++ later) since now
-    counted-with later alive k =
+    counted-with : (later : List ℕ) (own : ℕ) → since.nature.lively ≡ true → CountedBehind later own → CountedOver (c.versions ++ later) (requests_of s.done + own) since now
+    counted-with later own alive k =
         let paced = c.answered.paced alive in
         let a = paced.few in
         let long = plan-long later in
@@ -175,8 +159,6 @@ module _ (p : Publisher) (allows : List ℕ → ℕ → List ℕ → List ℕ �
         record {
           rises = paced.rises + k.rises;
           rose = rose-both paced.rises k.rises since.faults s.between.faults now.faults paced.rose k.rose;
-          started = requests_of s.done + k.own;
-          is_started = k.is_started;
           few = omega (arith, a, long, f);
           dials = omega (arith, a, long, d, e);
           given = omega (arith, a, long, i, j);
@@ -221,22 +203,13 @@ module _ (p : Publisher) (allows : List ℕ → ℕ → List ℕ → List ℕ �
       none-rises : RoseBy 0 s.between.faults now.faults
       none-rises = subst (λ (x : WireState). RoseBy 0 s.between.faults x.faults) (sym is) (rose-none s.between.faults)
 
-      none-started : CountedBehind ones.0
+      none-started : CountedBehind ones.0 0
       none-started =
           let d : now.dials ≡ s.between.dials = ap (λ (x : WireState). x.dials) is in
           let h : now.given ≡ s.between.given = ap (λ (x : WireState). x.given) is in
-          let zero : requests_of s.done ≡ requests_of s.done + 0 = omega arith in
           record {
             rises = 0;
             rose = none-rises;
-            own = 0;
-            is_started = record {
-              asked = s.asked;
-              rest = s.rest;
-              blocks_are = s.blocks_are;
-              turns = subst (λ (n : ℕ). StartedInTurn allows options options.budget s.asked since now n) zero
-                  (subst (λ (x : WireState). StartedInTurn allows options options.budget s.asked since x (requests_of s.done)) (sym is) (chain-started allows options start g.names options.budget s.asked s.done since s.between s.gives));
-            };
             few = omega arith;
             dials = omega (arith, d);
             given = omega (arith, h);
@@ -247,13 +220,14 @@ module _ (p : Publisher) (allows : List ℕ → ℕ → List ℕ → List ℕ �
 
       bare : (own : ClientFault) → ((x : IsHonestCause (group_offer p g start) options own) × IsHonestCauseOf (group_offer p g start) options (c.versions ++ ones.0) own x)
           → (since.nature.lively ≡ true → (x : IsLivelyCause (group_offer p g start) options since now own) × IsLivelyCauseOf (group_offer p g start) options since now (c.versions ++ ones.0) own x)
-          → ((x : ForBudget (SpendsPlan (group_offer p g start) options) own) × IsSpentOf (group_offer p g start) options (c.versions ++ ones.0) own x) → fault ≡ own → EndDone fault since now
-      bare own cause lively spent e = subst (λ (f : ClientFault). EndDone f since now) (sym e) (record {
+          → ((x : ForBudget (SpendsPlan (group_offer p g start) options) own) × IsSpentOf (group_offer p g start) options (c.versions ++ ones.0) own x) → fault ≡ own → EndDone s.done (requests_of s.done + 0) fault since now
+      bare own cause lively spent e = subst (λ (f : ClientFault). EndDone s.done (requests_of s.done + 0) f since now) (sym e) (record {
         versions = c.versions ++ ones.0;
         are_versions = none-versions;
+        told = tell-first s.done c.versions ones.0 c.told;
         done = done-with ones.0 nothing-more;
         cause = cause;
-        counted = λ alive. counted-with ones.0 alive none-started;
+        counted = λ alive. counted-with ones.0 0 alive none-started;
         lively = lively;
         spent = spent;
       })
@@ -307,18 +281,6 @@ module _ (p : Publisher) (allows : List ℕ → ℕ → List ℕ → List ℕ �
 
       in-versions : (version : ℕ) → Contains (c.versions ++ later-with version) version
       in-versions version = Contains-append_right c.versions (later-with version) version (at_head version behind-it.0)
-
-      own-started : (own : ℕ) → StartedIn allows (left_by options s.done) s.between now own → StartedByBlocks allows options g since now (requests_of s.done + own)
-      own-started own started = record {
-        asked = s.asked ++ ps ∷ [];
-        rest = more;
-        blocks_are = s.blocks_are ∙ (ap (λ (l : List (List Pattern)). s.asked ++ l) r ∙ sym (snoc_append s.asked ps more));
-        turns =
-            let l = within in
-            let whole : options.budget - requests_of s.done + requests_of s.done ≡ options.budget = omega (arith, l) in
-            started-more allows options options.budget s.asked ps (options.budget - requests_of s.done) own (requests_of s.done) since s.between now
-            (chain-started allows options start g.names options.budget s.asked s.done since s.between s.gives) whole started;
-      }
 
       module _ (version : ℕ) (are : AreVersions p.history g (c.versions ++ later-with version)) where
         -- where the versions of all blocks answer the whole plan, this version answers that of the block
@@ -429,7 +391,7 @@ module _ (p : Publisher) (allows : List ℕ → ℕ → List ℕ → List ℕ �
         own-spent faults.OutOfMemory h same = (tt, tt)
 
       -- the call for it ended
-      ended-in : (own : ClientFault) → fault ≡ of_block options.budget own → EndsBlock allows (left_by options s.done) start (block_query g.names ps) own s.between now → EndDone fault since now
+      ended-in : (own : ClientFault) → fault ≡ of_block options.budget own → (ends : EndsBlock allows (left_by options s.done) start (block_query g.names ps) own s.between now) → EndDone s.done (requests_of s.done + ends.acts.happened.pool.started) fault since now
       ended-in own e ends =
           let acts = ends.acts.plan in
           let left = options.budget - requests_of s.done in
@@ -440,6 +402,7 @@ module _ (p : Publisher) (allows : List ℕ → ℕ → List ℕ → List ℕ �
           record {
             versions = c.versions ++ later;
             are_versions = are;
+            told = tell-first s.done c.versions later c.told;
             done = done-with later (next-done version left behind (block-done p allows options start g.names ps left s.between now honest-behind _ (Err own) acts));
             cause = subst (λ (f : ClientFault). (x : IsHonestCause (group_offer p g start) options f) × IsHonestCauseOf (group_offer p g start) options (c.versions ++ later) f x) (sym e)
                 (own-honest version are own (acts.honest_cause p honest-behind) (acts.one_cause p honest-behind));
@@ -451,12 +414,11 @@ module _ (p : Publisher) (allows : List ℕ → ℕ → List ℕ → List ℕ �
                 let f = k.few in
                 let d = k.dials in
                 let h = k.given in
-                counted-with later alive (record {
+                let started : k.started ≡ ends.acts.happened.pool.started = k.is_started in
+                counted-with later ends.acts.happened.pool.started alive (record {
                   rises = k.rises;
                   rose = k.rose;
-                  own = k.started;
-                  is_started = own-started k.started (record { events = ends.acts.happened.events; pool = ends.acts.happened.pool; runs = ends.acts.happened.runs; is_started = sym k.is_started });
-                  few = omega (arith, size, most, f);
+                  few = omega (arith, size, most, f, started);
                   dials = omega (arith, size, most, d);
                   given = omega (arith, size, most, h);
                 });
@@ -469,7 +431,7 @@ module _ (p : Publisher) (allows : List ℕ → ℕ → List ℕ → List ℕ �
 
       -- it gave its rows, and told another version than the first
       differed : (first : BlockRows) (later : List BlockRows) (b : BlockRows) → s.done ≡ first ∷ later → first.report.version ≢ b.report.version → fault ≡ faults.Changed first.report.version b.report.version
-          → GivesRows allows (left_by options s.done) start (block_query g.names ps) b s.between now → EndDone fault since now
+          → GivesRows allows (left_by options s.done) start (block_query g.names ps) b s.between now → EndDone s.done (requests_of s.done + b.report.requests) fault since now
       differed first others b d ne e gives =
           let acts = gives.acts.plan in
           let left = options.budget - requests_of s.done in
@@ -483,6 +445,7 @@ module _ (p : Publisher) (allows : List ℕ → ℕ → List ℕ → List ℕ �
           record {
             versions = c.versions ++ later;
             are_versions = are;
+            told = tell-first s.done c.versions later c.told;
             done = done-with later (next-done version b.report.requests on (block-done p allows options start g.names ps left s.between now honest-behind _ (Ok b.report) acts));
             cause = subst (λ (f : ClientFault). (x : IsHonestCause (group_offer p g start) options f) × IsHonestCauseOf (group_offer p g start) options (c.versions ++ later) f x) (sym e) (
               record {
@@ -507,15 +470,12 @@ module _ (p : Publisher) (allows : List ℕ → ℕ → List ℕ → List ℕ �
             counted = λ alive.
                 let k = (block-answered p allows options start g.names ps left s.between now honest-behind _ b.report acts).paced (alive-behind alive) in
                 let most = next-long version in
-                let h = gives.acts.happened in
                 let f = k.few in
                 let dialled = on.dials in
                 let linked = on.given in
-                counted-with later alive (record {
+                counted-with later b.report.requests alive (record {
                   rises = k.rises;
                   rose = k.rose;
-                  own = b.report.requests;
-                  is_started = own-started b.report.requests (record { events = h.events; pool = h.pool; runs = h.runs; is_started = gives.acts.answered.started });
                   few = omega (arith, most, f);
                   dials = omega (arith, most, f, dialled);
                   given = omega (arith, most, f, linked);
@@ -525,7 +485,7 @@ module _ (p : Publisher) (allows : List ℕ → ℕ → List ℕ → List ℕ �
           }
 
       -- nothing of the budget is left for it
-      spent-before : now ≡ s.between → requests_of s.done ≡ options.budget → fault ≡ faults.Budget options.budget → EndDone fault since now
+      spent-before : now ≡ s.between → requests_of s.done ≡ options.budget → fault ≡ faults.Budget options.budget → EndDone s.done (requests_of s.done + 0) fault since now
       spent-before is spent e =
           let some : 1 ≤ length (rest-plan (ones is).0) = some-plan in
           let tries = some-tries options.retries (length (rest-plan (ones is).0)) some in
@@ -543,10 +503,10 @@ module _ (p : Publisher) (allows : List ℕ → ℕ → List ℕ → List ℕ �
           some-plan : 1 ≤ length (rest-plan (ones is).0)
           some-plan = some-of s.rest (ones is).0 r (ones is).2
 
-    pub end-done : EndDone fault since now
+    pub end-done : EndDone s.done (requests_of s.done + started_last allows options start g.names s.done s.rest fault s.between now s.stops) fault since now
     end-done = by s.stops
       where
-        by : Stops allows options start g.names s.done s.rest fault s.between now → EndDone fault since now
+        by : (stops : Stops allows options start g.names s.done s.rest fault s.between now) → EndDone s.done (requests_of s.done + started_last allows options start g.names s.done s.rest fault s.between now stops) fault since now
         by (InBlock ps more own r e ends) = ended-in ps more r own e ends
         by (IsSpent ps more r spent e is) = spent-before ps more r is spent e
         by (Differs ps more first later b r d ne e gives) = differed ps more r first later b d ne e gives

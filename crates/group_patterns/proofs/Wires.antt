@@ -10,6 +10,7 @@ use Rattle.bgp_core.specs.declared.pattern.Pattern.{Pattern}
 use Rattle.bgp_core.specs.Queries.{QueryData}
 use Rattle.pool_laws.specs.Owning.{IsAsBefore, Same, Woken}
 use Rattle.pool_laws.specs.Provoking.{SparesWire}
+use Rattle.pool_laws.proofs.Hosts.{woken_peer}
 use Rattle.group_query.specs.Trees.{block_query}
 use Rattle.tpf_client.specs.declared.options.Options.{Options}
 use Rattle.tpf_client.specs.declared.fault.ClientFault.{ClientFault}
@@ -28,10 +29,6 @@ stays-closed a b (Woken o e) closed = absurd (true≢false (sym o ∙ closed))
 
 still-closed : (a b : Link) → IsAsBefore a b → a.is_open ≡ false → b.is_open ≡ false
 still-closed a b s closed = ap (λ (l : Link). l.is_open) (stays-closed a b s closed) ∙ closed
-
-same-peer : (a b : Link) → IsAsBefore a b → b.peer ≡ a.peer
-same-peer a b (Same e) = ap (λ (l : Link). l.peer) e
-same-peer a b (Woken o e) = ap (λ (l : Link). l.peer) e
 
 as-then : (a b c : Link) → IsAsBefore a b → IsAsBefore b c → IsAsBefore a c
 as-then a b c (Same e) s = subst (λ (l : Link). IsAsBefore l c) e s
@@ -88,7 +85,7 @@ module _ (start : Address) (m n : ℕ) (a b c : WireState) (p : Onward start m a
   peers-then k l h = by (cases_lt k b.given)
     where
       by : (k < b.given) ⊎ (b.given ≤ k) → IsDialledFor (start ∷ []) a.nature.tells (c.links k).peer
-      by (inl below) = let d = p.peers k l below in record { home = d.home; is_home = d.is_home; is_peer = same-peer (b.links k) (c.links k) (q.others k below) ∙ d.is_peer }
+      by (inl below) = let d = p.peers k l below in record { home = d.home; is_home = d.is_home; is_peer = woken_peer (b.links k) (c.links k) (q.others k below) ∙ d.is_peer }
       by (inr past) = let d = q.peers k past h in record { home = d.home; is_home = d.is_home; is_peer = d.is_peer ∙ ap (λ (x : Nature). told_by x.tells (d.home.host, d.home.port)) p.moves.nature }
 
   others-then : OthersStay a c

@@ -8,10 +8,10 @@ use Rattle.tpf_base.specs.Wrote.{AppendsPrefix}
 use Rattle.bgp_core.specs.Queries.{QueryData}
 use Rattle.bgp_core.specs.Solutions.{Places}
 use Rattle.result_json.specs.Results.{result_text}
-use Rattle.result_json.specs.Pieces.{Writing, front_text, row_piece, rows_text, end_text, PiecesMakeTheText}
-use Rattle.group_patterns.specs.Writing.{begun_text, AddsRow, WritesSoFar}
+use Rattle.result_json.specs.Pieces.{Writing, begun, front_text, row_piece, rows_text, end_text, PiecesMakeTheText}
+use Rattle.group_patterns.specs.Writing.{AddsRow, WritesSoFar}
 
-pub none-written : (q : QueryData) (rows : List Places) (w : Writing) (t : Option (List ℕ)) → w ≡ begun_text q → WritesSoFar q rows rows w t t
+pub none-written : (q : QueryData) (rows : List Places) (w : Writing) (t : Option (List ℕ)) → w ≡ begun q → WritesSoFar q rows rows w t t
 none-written q rows w t e = record {
   query = ap (λ (x : Writing). x.query) e;
   given = [];

@@ -15,7 +15,8 @@ use Rattle.tpf_client.specs.declared.options.Options.{Options}
 use Rattle.tpf_client.specs.declared.options.Report.{Report}
 use Rattle.tpf_client.specs.declared.fault.ClientFault.{ClientFault}
 use Rattle.tpf_client.specs.declared.fault.ClientFault.TheVariants as faults
-use Rattle.group_patterns.specs.Blocks.{BlockRows, rows_of, requests_of, version_told, TellOneVersion, with_budget, GivesRows, GivesAll, of_block, EndsBlock, AsksAll}
+use Rattle.group_patterns.specs.Blocks.{BlockRows, rows_of, requests_of, version_told, TellOneVersion, with_budget, GivesRows, GivesAll, of_block, EndsBlock, AsksAll, AsksSome}
+use Rattle.group_patterns.specs.Texts.{WritesGathered, WritesGatheredFront}
 
 -- what a call needs of its options
 pub record SuitsCalls (options : Options) : Type 0 where
@@ -128,3 +129,15 @@ pub record Gathers (allows : List ℕ → ℕ → List ℕ → List ℕ → Type
   pub asks : AsksAll allows options start g.names (blocks_of (group_tree g)) report since now
   pub rows_are : rows ≡ gathered_answers g (rows_of asks.done)
   pub count : report.rows ≡ counted_by (length rows) 0
+
+-- ---- what was written
+
+-- all blocks were asked, and the text of what is gathered from their rows was written whole
+pub record AsksAndWrites (allows : List ℕ → ℕ → List ℕ → List ℕ → Type 0) (options : Options) (start : Address) (g : GroupData) (report : Report) (since now : WireState) (taken taken' : Option (List ℕ)) : Type 0 where
+  pub asks : AsksAll allows options start g.names (blocks_of (group_tree g)) report since now
+  pub writes : WritesGathered g asks.done report taken taken'
+
+-- some blocks were asked, and nothing was written; or all were, and a prefix of such a text was written
+pub record AsksAndStops (allows : List ℕ → ℕ → List ℕ → List ℕ → Type 0) (options : Options) (start : Address) (g : GroupData) (fault : ClientFault) (since now : WireState) (taken taken' : Option (List ℕ)) : Type 0 where
+  pub asks : AsksSome allows options start g.names (blocks_of (group_tree g)) fault since now
+  pub front : WritesGatheredFront g asks.done asks.rest taken taken'

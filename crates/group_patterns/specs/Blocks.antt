@@ -2,7 +2,6 @@
 use Rattle.std.specs.Prelude.{ℕ, ◌≡◌, ◌≢◌, ◌≤◌, ◌+◌, ◌-◌, ◌++◌, List, [], ◌∷◌, length, Option, None, Ok, Err}
 use Rattle.std.specs.List.{AllByRecursion}
 use Rattle.tpf_base.specs.Addresses.{Address}
-use Rattle.tpf_base.specs.Causes.{counted_by}
 use Rattle.tpf_base.specs.Links.{WireState, OpensGiven}
 use Rattle.bgp_core.specs.declared.pattern.Pattern.{Pattern}
 use Rattle.bgp_core.specs.Queries.{QueryData}
@@ -13,9 +12,11 @@ use Rattle.tpf_client.specs.declared.options.Options.{Options}
 use Rattle.tpf_client.specs.declared.options.Report.{Report}
 use Rattle.tpf_client.specs.declared.fault.ClientFault.{ClientFault}
 use Rattle.tpf_client.specs.declared.fault.ClientFault.TheVariants as faults
-use Rattle.tpf_client.specs.Calls.{most_asked}
+use Rattle.tpf_client.specs.Calls.{AreThese, Returns, most_asked}
+use Rattle.tpf_client.specs.Choices.{FailsOverOne}
 use Rattle.tpf_client.specs.Offers.{publisher, offer_in_blocks}
 use Rattle.tpf_client.specs.Ends.{ends_in_blocks}
+use Rattle.tpf_client.specs.Sources.{world_sources}
 use Rattle.tpf_client.specs.Honest.{IsSolutions}
 use Rattle.tpf_client.specs.Plans.{OverHonest}
 use Rattle.tpf_client.specs.Still.{SucceedsStill, PacesStill}
@@ -55,14 +56,14 @@ with_budget options budget = record options { budget = budget; block = 1 }
 abbrev pub left_by : Options → List BlockRows → Options
 left_by options bs = with_budget options (options.budget - requests_of bs)
 
--- The call for a block gave these rows: there was something of the budget, and each row has a place for every name. What it did on its wire, where no link is open but those that were given; over an honest other end the rows are the block's solutions over the version that it told; and where that answers over one version alone, this is told, and its plan paces the requests.
+-- The call for a block gave these rows: there was something of the budget, and each row has a place for every name. What it did on its wire (`acts`), where no link is open but those that were given, and what it gave (`returns`) are said of the same events; over an honest other end the rows are the block's solutions over the version that it told; and where that answers over one version alone, this is told, and its plan paces the requests.
 pub record GivesRows (allows : List ℕ → ℕ → List ℕ → List ℕ → Type 0) (options : Options) (start : Address) (q : QueryData) (b : BlockRows) (since now : WireState) : Type 0 where
   pub some : 1 ≤ options.budget
   pub acts : ActsOnWire allows (ends_in_blocks options.block q start) options (start ∷ []) (most_asked options q) (Ok b.report) (λ report. report) since now
+  pub returns : Returns (AreThese acts.happened.events acts.happened.pool) (world_sources options.block) q (start ∷ []) b.report b.rows
   pub solutions : OverHonest allows start since (λ history config. IsSolutions (offer_in_blocks options.block (publisher history config) q start) b.report.version b.rows)
   pub paced : PacesStill allows options q start since now (λ report. report) (Ok b.report)
   pub width : HaveWidth (length q.names) b.rows
-  pub count : b.report.rows ≡ counted_by (length b.rows) 0
   pub alone : OpensGiven now
 
 -- Each of these blocks was asked once and gave its rows, the first with so much of the budget, and each other with what those before it left of that.
@@ -96,10 +97,11 @@ of_block budget (faults.Budget n) = faults.Budget budget
 of_block budget faults.Sink = faults.Sink
 of_block budget faults.OutOfMemory = faults.OutOfMemory
 
--- The call for a block ended with a fault: there was something of the budget, and no sink. What it did on its wire, and the cause; where the other end answers over one version alone, whose plan fits, it is want of memory.
+-- The call for a block ended with a fault: there was something of the budget, and no sink. What it did on its wire, the cause (`acts`), and what it came to before that (`fails`) are said of the same events, and over an honest other end of one version, that of its start page; where the other end answers over one version alone, whose plan fits, the fault is want of memory.
 pub record EndsBlock (allows : List ℕ → ℕ → List ℕ → List ℕ → Type 0) (options : Options) (start : Address) (q : QueryData) (fault : ClientFault) (since now : WireState) : Type 0 where
   pub some : 1 ≤ options.budget
   pub acts : ActsOnWire allows (ends_in_blocks options.block q start) options (start ∷ []) (most_asked options q) (Err fault) (λ (report : Report). report) since now
+  pub fails : FailsOverOne (AreThese acts.happened.events acts.happened.pool) acts.happened.pool.started allows (ends_in_blocks options.block q start) options (world_sources options.block) q (start ∷ []) fault since now None None
   pub still : SucceedsStill {A = Report} allows options q start since now ⊥ (Err fault)
   pub no_sink : fault ≢ faults.Sink
   pub alone : OpensGiven now
@@ -115,6 +117,16 @@ pub data Stops (allows : List ℕ → ℕ → List ℕ → List ℕ → Type 0) 
       → GivesRows allows (left_by options done) start (block_query names ps) b since now → Stops allows options start names done rest fault since now
   IsLacking : fault ≡ faults.OutOfMemory → now ≡ since → Stops allows options start names done rest fault since now
   IsUnwritten : rest ≡ [] → fault ≡ faults.Sink → now ≡ since → Stops allows options start names done rest fault since now
+
+-- how many requests were started in the call for the block at which the call stopped; none where it was not asked
+abbrev pub started_last :
+    (allows : List ℕ → ℕ → List ℕ → List ℕ → Type 0) (options : Options) (start : Address) (names : List (List ℕ)) (done : List BlockRows) (rest : List (List Pattern)) (fault : ClientFault) (since now : WireState)
+    → Stops allows options start names done rest fault since now → ℕ
+started_last allows options start names done rest fault since now (InBlock ps more own r e ends) = ends.acts.happened.pool.started
+started_last allows options start names done rest fault since now (IsSpent ps more r spent e is) = 0
+started_last allows options start names done rest fault since now (Differs ps more first later b r d ne e gives) = b.report.requests
+started_last allows options start names done rest fault since now (IsLacking e is) = 0
+started_last allows options start names done rest fault since now (IsUnwritten r e is) = 0
 
 -- Some of the blocks, from the first one on, gave their rows and told one version, and then the call ended with a fault.
 pub record AsksSome (allows : List ℕ → ℕ → List ℕ → List ℕ → Type 0) (options : Options) (start : Address) (names : List (List ℕ)) (blocks : List (List Pattern)) (fault : ClientFault) (since now : WireState) : Type 0 where

@@ -1,9 +1,8 @@
 -- What a query with groups asks a server for, the plans of its blocks one after another, and what the server offers to it.
-use Rattle.std.specs.Prelude.{ℕ, ◌≡◌, ◌+◌, ◌-◌, ◌++◌, List, [], ◌∷◌, length, map, Option, Some, None}
+use Rattle.std.specs.Prelude.{ℕ, ◌≡◌, ◌++◌, List, [], ◌∷◌, length, map, Option, Some, None}
 use Rattle.std.specs.List.{flat_map, AllByRecursion, Contains}
 use Rattle.rdf_terms.specs.declared.term.Triple.{Triple}
 use Rattle.tpf_base.specs.Addresses.{Address}
-use Rattle.tpf_base.specs.Links.{WireState}
 use Rattle.template_fill.specs.Bodies.{version_of}
 use Rattle.http_wire.specs.declared.message.ReplyFault.{ReplyFault}
 use Rattle.http_wire.specs.declared.message.ReplyFault.TheVariants as refusals
@@ -17,8 +16,8 @@ use Rattle.tpf_client.specs.declared.fault.ClientFault.TheVariants as faults
 use Rattle.tpf_client.specs.Calls.{solutions_of}
 use Rattle.tpf_client.specs.Offers.{Publisher, Offer, IsVersionOf, addresses_of}
 use Rattle.tpf_client.specs.Ends.{Ends, publisher_ends}
-use Rattle.tpf_client.specs.Plans.{AtEach, IsAnswerable, IsReadByAll, HasLongPage, TellsVersions, StartedIn}
-use Rattle.group_patterns.specs.Blocks.{with_budget}
+use Rattle.tpf_client.specs.Plans.{AtEach, IsAnswerable, IsReadByAll, HasLongPage, TellsVersions}
+use Rattle.group_patterns.specs.Blocks.{BlockRows}
 
 -- ---- the plan
 
@@ -58,6 +57,12 @@ pub record IsToldByAll (versions : List ℕ) (reported : Option ℕ) : Type 0 wh
   pub each : AllByRecursion (λ version. reported ≡ Some version) versions
   pub none : versions ≡ [] → reported ≡ None
 
+-- the first of these versions are those that the blocks told, one after another
+abbrev pub TellFirst : List BlockRows → List ℕ → Type 0
+TellFirst [] versions = Unit {0}
+TellFirst (b ∷ bs) [] = ⊥
+TellFirst (b ∷ bs) (version ∷ versions) = (b.report.version ≡ Some version) × TellFirst bs versions
+
 -- What a server offers to a query with groups. A choice is a version for each block, and a report tells of one where it tells each of them; all that the blocks have to ask for is asked for, block after block.
 abbrev pub group_offer : Publisher → GroupData → Address → Offer
 group_offer p g start = record {
@@ -73,21 +78,6 @@ group_offer p g start = record {
 -- one server, which stands at a start, of which the blocks of a query are asked
 abbrev pub group_ends : GroupData → Address → Ends
 group_ends g start = publisher_ends start (λ p. group_offer p g start)
-
--- ---- how many requests were started
-
--- the calls for these blocks, one after another, each with what those before it left of the budget: so many requests were started in all
-abbrev pub StartedInTurn : (List ℕ → ℕ → List ℕ → List ℕ → Type 0) → Options → ℕ → List (List Pattern) → WireState → WireState → ℕ → Type 0
-StartedInTurn allows options left [] since now started = (now ≡ since) × (started ≡ 0)
-StartedInTurn allows options left (ps ∷ pss) since now started = (mid : WireState) × (own : ℕ) × (more : ℕ)
-    × StartedIn allows (with_budget options left) since mid own × StartedInTurn allows options (left - own) pss mid now more × (started ≡ own + more)
-
--- the calls for some of the blocks, from the first one on
-pub record StartedByBlocks (allows : List ℕ → ℕ → List ℕ → List ℕ → Type 0) (options : Options) (g : GroupData) (since now : WireState) (started : ℕ) : Type 0 where
-  pub asked : List (List Pattern)
-  pub rest : List (List Pattern)
-  pub blocks_are : blocks_of (group_tree g) ≡ asked ++ rest
-  pub turns : StartedInTurn allows options options.budget asked since now started
 
 -- ---- causes over an honest wire, where all blocks are asked over one version
 

@@ -3,21 +3,18 @@ use Rattle.std.specs.Prelude.{ℕ, ◌≡◌, ◌⊎◌, List, [], length, Optio
 use Rattle.std.specs.Io.KnownBytes.{Appends}
 use Rattle.std.specs.List.Sorted.{IsPermutation}
 use Rattle.rdf_terms.specs.declared.term.Triple.{Triple}
-use Rattle.tpf_base.specs.Addresses.{Address}
 use Rattle.tpf_base.specs.Causes.{counted_by}
-use Rattle.tpf_base.specs.Links.{WireState}
 use Rattle.tpf_base.specs.Wrote.{AppendsPrefix}
 use Rattle.template_fill.specs.Bodies.{version_of}
+use Rattle.bgp_core.specs.declared.pattern.Pattern.{Pattern}
 use Rattle.bgp_core.specs.Solutions.{Places}
 use Rattle.result_json.specs.Results.{result_text}
 use Rattle.group_query.specs.Trees.{GroupData, group_tree, blocks_of, shown_query}
 use Rattle.group_rows.specs.Evaluation.{answers}
 use Rattle.group_rows.specs.Gathering.{gathered_answers}
-use Rattle.tpf_client.specs.declared.options.Options.{Options}
 use Rattle.tpf_client.specs.declared.options.Report.{Report}
-use Rattle.tpf_client.specs.declared.fault.ClientFault.{ClientFault}
 use Rattle.tpf_client.specs.Offers.{IsVersionOf}
-use Rattle.group_patterns.specs.Blocks.{rows_of, AsksAll, AsksSome}
+use Rattle.group_patterns.specs.Blocks.{BlockRows, rows_of}
 
 -- the text of a result with so many rows was written whole
 pub record WritesGroup (g : GroupData) (n : ℕ) (taken taken' : Option (List ℕ)) : Type 0 where
@@ -32,16 +29,14 @@ pub record WritesGroupPrefix (g : GroupData) (taken taken' : Option (List ℕ)) 
 
 -- ---- from the rows of the blocks
 
--- All blocks were asked, and the text of what is gathered from their rows was written whole.
-pub record WritesGathered (allows : List ℕ → ℕ → List ℕ → List ℕ → Type 0) (options : Options) (start : Address) (g : GroupData) (report : Report) (since now : WireState) (taken taken' : Option (List ℕ)) : Type 0 where
-  pub asks : AsksAll allows options start g.names (blocks_of (group_tree g)) report since now
-  pub text : Appends taken taken' (result_text (shown_query g) (gathered_answers g (rows_of asks.done)))
-  pub count : report.rows ≡ counted_by (length (gathered_answers g (rows_of asks.done))) 0
+-- Of these blocks, which gave their rows, the text of what is gathered from these was written whole, of as many rows as are reported.
+pub record WritesGathered (g : GroupData) (done : List BlockRows) (report : Report) (taken taken' : Option (List ℕ)) : Type 0 where
+  pub text : Appends taken taken' (result_text (shown_query g) (gathered_answers g (rows_of done)))
+  pub count : report.rows ≡ counted_by (length (gathered_answers g (rows_of done))) 0
 
--- Some blocks were asked, and nothing was written; or all were, and a prefix of such a text was written.
-pub record WritesGatheredFront (allows : List ℕ → ℕ → List ℕ → List ℕ → Type 0) (options : Options) (start : Address) (g : GroupData) (fault : ClientFault) (since now : WireState) (taken taken' : Option (List ℕ)) : Type 0 where
-  pub asks : AsksSome allows options start g.names (blocks_of (group_tree g)) fault since now
-  pub text : (taken' ≡ taken) ⊎ ((asks.rest ≡ []) × AppendsPrefix taken taken' (result_text (shown_query g) (gathered_answers g (rows_of asks.done))))
+-- Nothing was written; or, where no block is left to be asked, a prefix of such a text was.
+abbrev pub WritesGatheredFront : GroupData → List BlockRows → List (List Pattern) → Option (List ℕ) → Option (List ℕ) → Type 0
+WritesGatheredFront g done rest taken taken' = (taken' ≡ taken) ⊎ ((rest ≡ []) × AppendsPrefix taken taken' (result_text (shown_query g) (gathered_answers g (rows_of done))))
 
 -- ---- over an honest wire
 

@@ -5,10 +5,6 @@ use Rattle.bgp_core.specs.Solutions.{Places}
 use Rattle.result_json.specs.Pieces.{Writing, row_piece, rows_text, front_text}
 use Rattle.bgp_core.specs.Queries.{QueryData}
 
--- a text to which no row was given: what stands in front of the rows is pending
-abbrev pub begun_text : QueryData → Writing
-begun_text q = record { query = q; has_rows = false; pending = front_text q }
-
 -- a row was added, and the sink took a front of what was pending then
 pub record AddsRow (row : Places) (old new : Writing) (taken taken' : Option (List ℕ)) : Type 0 where
   pub query : new.query ≡ old.query

@@ -8,18 +8,18 @@ ghost use Rattle.row_algebra.specs.Algebra.{HaveWidth};
 ghost use Rattle.tpf_client.specs.Offers.{publisher};
 ghost use Rattle.tpf_client.specs.Plans.{OverHonest, PlanFits, RisesFew, MayStill};
 ghost use Rattle.tpf_client.specs.Sinks.{LeavesSink};
-ghost use Rattle.group_patterns.specs.Acts.{ActsOnGroups};
-ghost use Rattle.group_patterns.specs.Asking.{SuitsCalls, AsksBlocks, PutsTogether, Gathers};
+ghost use Rattle.group_patterns.specs.Asking.{SuitsCalls, AsksBlocks, PutsTogether, Gathers, AsksAndWrites, AsksAndStops};
 ghost use Rattle.group_patterns.specs.Blocks.{AsksSome};
+ghost use Rattle.group_patterns.specs.Ended.{EndsGroups};
 ghost use Rattle.group_patterns.specs.Plans.{group_offer};
 ghost use Rattle.group_patterns.specs.Still.{GroupSucceedsStill};
-ghost use Rattle.group_patterns.specs.Texts.{WritesGroup, WritesGroupPrefix, WritesGathered, WritesGatheredFront, WritesGroupAnswers, WritesGroupAnswersFront};
+ghost use Rattle.group_patterns.specs.Texts.{WritesGroup, WritesGroupPrefix, WritesGroupAnswers, WritesGroupAnswersFront};
 
 use crate::asking::{Asking, BlockCalls};
 use crate::text::write_rows;
 use bgp_core::Row;
 use group_query::GroupQuery;
-use group_rows::{evaluate, solutions_suffice};
+use group_rows::{evaluate, laws};
 use std::alloc::Global;
 use std::sync::Wait;
 use template_fill::WebAddress;
@@ -117,9 +117,9 @@ fn write_answers<R: Wait, W: Dial, K: Sink>(
     out: &mut K,
 ) -> Result<Report, ClientFault>
     requires bounds { SuitsCalls options.now }
-    ensures ok { IfOk result (λ report. WritesGathered (W.allows wire.old) options.now start.now query.now report
+    ensures ok { IfOk result (λ report. AsksAndWrites (W.allows wire.old) options.now start.now query.now report
         (W.state wire.old) (W.state wire.new) (K.state out.old).taken (K.state out.new).taken) }
-    ensures err { IfErr result (λ fault. WritesGatheredFront (W.allows wire.old) options.now start.now query.now fault
+    ensures err { IfErr result (λ fault. AsksAndStops (W.allows wire.old) options.now start.now query.now fault
         (W.state wire.old) (W.state wire.new) (K.state out.old).taken (K.state out.new).taken) }
     ensures sink { LeavesSink (K.state out.old) (K.state out.new) result }
     ensures allowed { SameAllowed (W.allows wire.old) (W.allows wire.new) }
@@ -141,7 +141,8 @@ fn write_answers<R: Wait, W: Dial, K: Sink>(
 /// the last block nothing is sent. All rows are held in memory. The requests that are reported are those of all blocks; the
 /// version is the one that all of them told. A query without a block sends nothing, and its version is `None`.
 ///
-/// Before all blocks gave their rows nothing is written; at a fault the sink took a prefix of the text. At each exit every
+/// Before all blocks gave their rows nothing is written; at a fault the sink took a prefix of the text. What was written, what
+/// was done on the wire and why the call ended are said of the same calls for the blocks (`ended`). At each exit every
 /// connection (link) of this call is closed; each was dialled for the host and port of the start, and no more dials were
 /// made than the budget allows. Connections that were there before are left as they are.
 ///
@@ -172,18 +173,14 @@ pub fn answer<R: Wait, W: Dial, K: Sink>(
     ensures whole { IfOk result (λ report. WritesGroup query.now report.rows (K.state out.old).taken
         (K.state out.new).taken) }
     ensures front { OnErr result (WritesGroupPrefix query.now (K.state out.old).taken (K.state out.new).taken) }
-    ensures ok { IfOk result (λ report. WritesGathered (W.allows wire.old) options.now start.now query.now report
-        (W.state wire.old) (W.state wire.new) (K.state out.old).taken (K.state out.new).taken) }
-    ensures err { IfErr result (λ fault. WritesGatheredFront (W.allows wire.old) options.now start.now query.now fault
-        (W.state wire.old) (W.state wire.new) (K.state out.old).taken (K.state out.new).taken) }
+    ensures ended { EndsGroups (W.allows wire.old) options.now start.now query.now result (W.state wire.old)
+        (W.state wire.new) (K.state out.old) (K.state out.new) }
     ensures headline { OverHonest (W.allows wire.old) start.now (W.state wire.old)
         (λ history config. IfOk result (λ report. WritesGroupAnswers history query.now report.version report.rows
         (K.state out.old).taken (K.state out.new).taken)) }
     ensures prefix { OverHonest (W.allows wire.old) start.now (W.state wire.old)
         (λ history config. OnErr result (WritesGroupAnswersFront history query.now (K.state out.old).taken
         (K.state out.new).taken)) }
-    ensures acts { ActsOnGroups (W.allows wire.old) options.now start.now query.now result (W.state wire.old)
-        (W.state wire.new) (K.state out.old).faults (K.state out.new).faults }
     ensures complete { OverHonest (W.allows wire.old) start.now (W.state wire.old)
         (λ history config. (W.state wire.old).nature.lively ≡ true → (rise : ℕ)
         → RisesFew options.now rise (W.state wire.old) (W.state wire.new)
@@ -195,6 +192,6 @@ pub fn answer<R: Wait, W: Dial, K: Sink>(
     ensures sink { LeavesSink (K.state out.old) (K.state out.new) result }
     ensures allowed { SameAllowed (W.allows wire.old) (W.allows wire.new) }
 {
-    solutions_suffice();
+    laws::solutions_suffice();
     write_answers(rt, alloc, query, start, options, wire, out)
 }

@@ -3,20 +3,17 @@ ghost use Rattle.std.specs.Prelude.{◌≡◌, ◌++◌, OnOk, OnErr, IfErr};
 ghost use Rattle.std.specs.Io.KnownBytes.{Appends};
 ghost use Rattle.tpf_base.specs.Wrote.{AppendsPrefix, WritesWhole};
 ghost use Rattle.result_json.specs.Results.{result_text};
-ghost use Rattle.result_json.specs.Pieces.{row_piece, end_text};
+ghost use Rattle.result_json.specs.Pieces.{begun, row_piece, end_text};
 ghost use Rattle.tpf_client.specs.Causes.{IsLocal};
 ghost use Rattle.tpf_client.specs.Sinks.{KeepsSink, LeavesSink};
-ghost use Rattle.group_patterns.specs.Writing.{AddsRow, begun_text};
+ghost use Rattle.group_patterns.specs.Writing.{AddsRow};
 
 use crate::fault::of_sink;
 use bgp_core::{Query, Row};
-use result_json::{ResultWriter, pieces_make_the_text};
+use result_json::{ResultWriter, laws};
 use std::alloc::Global;
 use tpf_base::{Fault, Sink};
-use tpf_client::ClientFault;
-
-/// So many bytes are gathered before they are given to the sink.
-const GATHERED: usize = 65536;
+use tpf_client::{ClientFault, GATHERED};
 
 /// Adds a row, and gives what is pending to the sink where that is much.
 fn add_row<'a, K: Sink>(writer: &mut ResultWriter<'a>, row: &Row, out: &mut K) -> Result<(), Fault>
@@ -53,14 +50,14 @@ fn write_pieces<'a, K: Sink>(
     rows: &[Row],
     out: &mut K,
 ) -> Result<(), Fault>
-    requires fresh { writer.old ≡ begun_text writer.old.query }
+    requires fresh { writer.old ≡ begun writer.old.query }
     ensures ok { OnOk result (Appends (K.state out.old).taken (K.state out.new).taken
         (result_text writer.old.query rows.now)) }
     ensures err { OnErr result (AppendsPrefix (K.state out.old).taken (K.state out.new).taken
         (result_text writer.old.query rows.now)) }
     ensures sink { KeepsSink (K.state out.old) (K.state out.new) result }
 {
-    pieces_make_the_text();
+    laws::pieces_make_the_text();
     for row in rows {
         match add_row(writer, row, out) {
             Ok(()) => {}

@@ -1,5 +1,4 @@
 -- The query of the block is asked.
-use Rattle.tpf_client.specs.Calls.{AreThese}
 use Rattle.group_patterns.proofs.Progressing.{call-gave, call-ended}
 use Rattle.group_patterns.proofs.block.collect_block.Goals as goal
 
@@ -15,9 +14,9 @@ collect-requires-clause-few g c = c.requires.bounds.few
 pub returns-in-Ok-clause-ok : goal.returns-in-Ok-clause-ok
 returns-in-Ok-clause-ok g c =
     call-gave (g.W.Wire.allows c.args.wire.now) c.args.options.now c.args.start.now c.args.names.now c.args.patterns.now (g.W.Wire.state c.args.wire.now) (g.W.Wire.state c.collect.new.wire) c.requires.left (g.met.W.Wire.given_alone c.collect.new.wire) (λ r. r.1) (λ r. r.0.items)
-    c.in-Ok.query c.in-Ok.ensures c.collect.result c.collect.ensures.ended.acts c.collect.ensures.headline c.collect.ensures.paced (AreThese c.collect.ensures.ended.acts.happened.events c.collect.ensures.ended.acts.happened.pool) c.collect.ensures.ended.ok
+    c.in-Ok.query c.in-Ok.ensures c.collect.result c.collect.ensures.ended c.collect.ensures.headline c.collect.ensures.paced
 
 pub returns-in-Ok-clause-err : goal.returns-in-Ok-clause-err
 returns-in-Ok-clause-err g c =
     call-ended (g.W.Wire.allows c.args.wire.now) c.args.options.now c.args.start.now c.args.names.now c.args.patterns.now (g.W.Wire.state c.args.wire.now) (g.W.Wire.state c.collect.new.wire) c.requires.left (g.met.W.Wire.given_alone c.collect.new.wire) (λ r. r.1) (λ r. r.0.items)
-    c.in-Ok.query c.in-Ok.ensures c.collect.result c.collect.ensures.ended.acts c.collect.ensures.still c.collect.ensures.sink
+    c.in-Ok.query c.in-Ok.ensures c.collect.result c.collect.ensures.ended c.collect.ensures.still c.collect.ensures.sink
