@@ -1,12 +1,13 @@
 -- Files and generated data are within the limits under which plans are read.
-use Rattle.std.proofs.Common.{◌≡◌, List, [], ◌∷◌, length, codes, refl, arith}
+use Rattle.std.proofs.Common.{◌≡◌, ◌≤◌, ◌+◌, List, [], ◌∷◌, length, codes, refl, arith, lit≤}
 use Rattle.std.specs.List.{AllByRecursion}
 use Rattle.std.proofs.lemmas.List.Elements.{All-from_recursion}
+use Rattle.rdf_terms.specs.declared.limits.TheConstants.{LONGEST_TERM}
 use Rattle.rdf_terms.specs.declared.term.Quad.{Quad}
 use Rattle.rdf_terms.specs.Sizes.{IsShortTriple}
 use Rattle.tpf_base.specs.Addresses.{IsAuthority}
 use Rattle.nquads_text.specs.Laws.{ReadIsReadable}
-use Rattle.nquads_text.specs.Quads.{IsReadable}
+use Rattle.nquads_text.proofs.ReadLaws.{short_quads}
 use Rattle.triple_table.specs.Short.{ServedAreShort}
 use Rattle.bgp_core.specs.declared.pattern.Part.{Part}
 use Rattle.bgp_core.specs.declared.pattern.Part.TheVariants.{Fixed, Name}
@@ -18,20 +19,17 @@ use Rattle.generated_server.specs.Starts.{AreSmall, GeneratedAreSmall}
 use Rattle.query_command.specs.Limits.{FilesAreServable, GeneratedAreServable, QueriesAreAskable}
 
 abbrev IsShort : Quad → Type 0
-IsShort q = IsShortTriple 262144 q.triple
-
-short_quads : (quads : List Quad) → AllByRecursion (IsReadable 262144) quads → AllByRecursion IsShort quads
-short_quads [] h = tt
-short_quads (q ∷ quads) h =
-    let r = h.0 in
-    (record { subject = record { fits = r.subject.fits; label = r.subject.label }; predicate = record { fits = r.predicate.fits; label = r.predicate.label }; object = record { fits = r.object.fits; label = r.object.label } }, short_quads quads h.1)
+IsShort q = IsShortTriple LONGEST_TERM q.triple
 
 localhost_long : length (codes "localhost") ≡ 9
 localhost_long = refl
 
+room : 9 + 1052 ≤ LONGEST_TERM
+room = lit≤ tt
+
 pub files_are_servable : ReadIsReadable → ServedAreShort → FilesAreServable
 files_are_servable readable short files name choice triples (quads, holds, free, served, few) = record {
-  terms = short 262144 (codes "localhost") choice quads triples (omega (arith, localhost_long)) (All-from_recursion IsShort quads (short_quads quads (readable holds.0 262144 quads holds.3))) served;
+  terms = short LONGEST_TERM (codes "localhost") choice quads triples (omega (arith, localhost_long, room)) (All-from_recursion IsShort quads (short_quads LONGEST_TERM quads (readable holds.0 LONGEST_TERM quads holds.3))) served;
   few = let most = few.2 in omega (arith, most);
 }
 

@@ -5,6 +5,7 @@ use Rattle.tpf_base.specs.Addresses.{Address, address_text}
 use Rattle.tpf_base.specs.Links.{WireState}
 use Rattle.tpf_base.specs.Outside.{ShelfState}
 use Rattle.tpf_base.specs.Wrote.{SinkState}
+use Rattle.template_fill.specs.declared.limits.TheConstants.{LONGEST_START}
 use Rattle.template_fill.specs.Metadata.{Config}
 use Rattle.template_fill.specs.Answered.{AnsweredGivePages}
 use Rattle.bgp_core.specs.Queries.{IsValidPattern, QueryData}
@@ -86,7 +87,7 @@ module _ (shelf shelf' : ShelfState) (persons : ℕ) (name : List ℕ) (inside :
 module _ (told : Option Files) (name : List ℕ) (allows : List ℕ → ℕ → List ℕ → List ℕ → Type 0) (start : Address) (options : Options) (old new : WireState) (out out' : ℕ) (taken taken' : Option (List ℕ)) where
   -- a call that failed over a wire, and the valid patterns of its query
   pub asked_complete : PlansAreRead → StartsAreRead → AnsweredGivePages → QueriesAreAskable → IsBlockSize options.block → (fault : ClientFault) → (a : AnswersSome told name allows start options fault old new out out' taken taken') → AllByRecursion IsValidPattern a.q.patterns
-      → length (address_text start) ≤ 65536 → ¬ (Rose out out') → OfQuery told name (λ q. (p : Publisher) (version : ℕ) → FitsOver allows q start options p version old new → fault ≡ clients.OutOfMemory)
+      → length (address_text start) ≤ LONGEST_START → ¬ (Rose out out') → OfQuery told name (λ q. (p : Publisher) (version : ℕ) → FitsOver allows q start options p version old new → fault ≡ clients.OutOfMemory)
   asked_complete plans starts gives askable sized fault a valid short fine = λ files is q holds p version fits.
       let same : q ≡ a.q = same_query q a.q (one_query grammars.Patterns files name (reads q) (reads a.q) holds (a.is_read.tells files is)) in
       let own : FitsOver allows a.q start options p version old new = subst (λ (x : QueryData). FitsOver allows x start options p version old new) same fits in
@@ -95,7 +96,7 @@ module _ (told : Option Files) (name : List ℕ) (allows : List ℕ → ℕ → 
 
 module _ (shelf shelf' : ShelfState) (name : List ℕ) (allows : List ℕ → ℕ → List ℕ → List ℕ → Type 0) (start : Address) (options : Options) (wire wire' : WireState) (out out' : SinkState) where
   query_complete : (result : Result Report AnswerFault) → IfErr result (AskCause shelf shelf' name allows start options wire wire' out out') → QueryDecides (grammar_of options) shelf shelf' name (λ outcome. GivesAnswer outcome result)
-      → (length (address_text start) ≤ 65536 → ¬ (Rose out.faults out'.faults) → OfQuery shelf.told name (λ q. (p : Publisher) (version : ℕ) → FitsOver allows q start options p version wire wire' → IfErr result IsClientWanting))
+      → (length (address_text start) ≤ LONGEST_START → ¬ (Rose out.faults out'.faults) → OfQuery shelf.told name (λ q. (p : Publisher) (version : ℕ) → FitsOver allows q start options p version wire wire' → IfErr result IsClientWanting))
       → SucceedsOver shelf shelf' name allows start options wire wire' out out' result
   query_complete (Ok report) cause exact asked short quiet fine = λ files is q holds p version fits. tt
   query_complete (Err (faults.Data fault)) cause exact asked short quiet fine = λ files is q holds p version fits. absurd cause
@@ -105,7 +106,7 @@ module _ (shelf shelf' : ShelfState) (name : List ℕ) (allows : List ℕ → �
   -- the answer or its cause, and that the call over the wire succeeds where nothing stands in the way, say the rest
   pub asks_server : (result : Result Report AnswerFault) → IfOk result (λ report. Answers shelf.told name allows start options report wire wire' out.taken out'.taken)
       → IfErr result (AskCause shelf shelf' name allows start options wire wire' out out')
-      → (length (address_text start) ≤ 65536 → ¬ (Rose out.faults out'.faults) → OfQuery shelf.told name (λ q. (p : Publisher) (version : ℕ) → FitsOver allows q start options p version wire wire' → IfErr result IsClientWanting))
+      → (length (address_text start) ≤ LONGEST_START → ¬ (Rose out.faults out'.faults) → OfQuery shelf.told name (λ q. (p : Publisher) (version : ℕ) → FitsOver allows q start options p version wire wire' → IfErr result IsClientWanting))
       → ReadsNamed name shelf shelf' (FailsByFile result) → KeepsOutput out out' result → AsksServer shelf shelf' allows wire wire' out out' name start options result
   asks_server result ok err asked named output =
       let exact = gives_answer shelf shelf' name allows start options wire wire' out out' result ok err in

@@ -6,6 +6,7 @@ use Rattle.rdf_terms.specs.declared.term.Triple.{Triple}
 use Rattle.tpf_base.specs.Addresses.{Address, address_text, authority_of}
 use Rattle.tpf_base.specs.Links.{WireState}
 use Rattle.tpf_base.specs.Marks.{Served}
+use Rattle.template_fill.specs.declared.limits.TheConstants.{LONGEST_START}
 use Rattle.template_fill.specs.Metadata.{Config}
 use Rattle.template_fill.specs.Bodies.{version_of}
 use Rattle.template_fill.specs.Configurations.{IsConfig, IsHistory, IsValidDataSet}
@@ -69,8 +70,8 @@ module _ (triples : List Triple) (config : Config) where
         at_version options.block triples config q local_base (AllByRecursion EachReads) version is
         (all_so Reads EachReads (λ address r. at-server options.block (publisher (triples ∷ []) config) q local_base IsReadByAll address (read_one address r)) (plan_of options triples config q) reads)
 
-base_short : (base : Address) → base ≡ local_base → length (address_text base) ≤ 65536
-base_short base is = subst (λ (b : Address). length (address_text b) ≤ 65536) (sym is) (lit≤ tt)
+base_short : (base : Address) → base ≡ local_base → length (address_text base) ≤ LONGEST_START
+base_short base is = subst (λ (b : Address). length (address_text b) ≤ LONGEST_START) (sym is) (lit≤ tt)
 
 -- a request carries one row at least
 pub one_row : IsBlockSize 1
@@ -95,7 +96,7 @@ plan_is_read plans bases block sized triples config q base valid is_config serva
 
 -- the plan of a version from a start that it answers is read
 pub version_plan_is_read : PlansAreRead → StartsAreRead → AnsweredGivePages → (block : ℕ) → IsBlockSize block → (p : Publisher) (version : ℕ) (start : Address) (q : QueryData) → IsHistory p.history → IsConfig p.config → IsVersionOf p.history version
-    → AreServable (version_of p.history version) → authority_of start ≡ authority_of p.config.base → is_answered p.history (Served version) p.config start ≡ true → length (address_text start) ≤ 65536
+    → AreServable (version_of p.history version) → authority_of start ≡ authority_of p.config.base → is_answered p.history (Served version) p.config start ≡ true → length (address_text start) ≤ LONGEST_START
     → AllByRecursion IsAskable q.patterns → AllByRecursion (IsRead p.history (Served version) p.config) (addresses_in_blocks block p q start version)
 version_plan_is_read plans starts gives block sized p version start q is_history is_config is servable authority answered text askable =
     let s : IsServable p.history (Served version) p.config = record {
@@ -120,7 +121,7 @@ at_chosen block p q start version most address fit = λ server told stands has.
     subst (λ (s : Publisher). IsFitAt most s told address) (sym stands) (subst (λ (n : ℕ). IsFitAt most p n address) (sym has) fit)
 
 pub plan_fits : PlansAreRead → StartsAreRead → AnsweredGivePages → (allows : List ℕ → ℕ → List ℕ → List ℕ → Type 0) (q : QueryData) (start : Address) (options : Options) (p : Publisher) (version : ℕ) (old new : WireState)
-    → IsBlockSize options.block → AllByRecursion IsAskable q.patterns → length (address_text start) ≤ 65536 → (f : FitsOver allows q start options p version old new) → ChoiceFits (offer_in_blocks options.block p q start) options f.rise version
+    → IsBlockSize options.block → AllByRecursion IsAskable q.patterns → length (address_text start) ≤ LONGEST_START → (f : FitsOver allows q start options p version old new) → ChoiceFits (offer_in_blocks options.block p q start) options f.rise version
 plan_fits plans starts gives allows q start options p version old new sized askable text f =
     let list = addresses_in_blocks options.block p q start version in
     let reads = version_plan_is_read plans starts gives options.block sized p version start q f.answers.is_history f.answers.is_config f.answers.is_version f.servable f.authority f.answered text askable in

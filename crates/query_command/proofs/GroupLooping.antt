@@ -9,9 +9,9 @@ use Rattle.tpf_base.specs.Wrote.{SinkState}
 use Rattle.template_fill.specs.Configurations.{IsConfig, IsValidDataSet}
 use Rattle.group_query.specs.Trees.{GroupData}
 use Rattle.group_rows.specs.Evaluation.{answers}
-use Rattle.group_patterns.specs.Texts.{WritesGroup, WritesGroupPrefix, WritesGathered, WritesGatheredFront, WritesGroupAnswers, WritesGroupAnswersFront}
+use Rattle.group_patterns.specs.Texts.{WritesGroup, WritesGroupPrefix, WritesGroupAnswers, WritesGroupAnswersFront}
 use Rattle.group_patterns.specs.Plans.{group_offer}
-use Rattle.group_patterns.specs.Acts.{ActsOnGroups}
+use Rattle.group_patterns.specs.Ended.{EndsGroups}
 use Rattle.group_patterns.specs.Still.{GroupSucceedsStill}
 use Rattle.loop_wire.specs.Looped.{Looped, CountsDue}
 use Rattle.fragment_server.specs.declared.server.FragmentServer.{FragmentServer}
@@ -35,21 +35,19 @@ use Rattle.query_command.proofs.GroupPlanned.{counts_group, may_end_group}
 pub record Called (allows : List ℕ → ℕ → List ℕ → List ℕ → Type 0) (g : GroupData) (options : Options) (result : Result Report ClientFault) (since now : WireState) (out out' : SinkState) (start : Address) : Type 0 where
   pub whole : IfOk result (λ report. WritesGroup g report.rows out.taken out'.taken)
   pub front : OnErr result (WritesGroupPrefix g out.taken out'.taken)
-  pub ok : IfOk result (λ report. WritesGathered allows options start g report since now out.taken out'.taken)
-  pub err : IfErr result (λ fault. WritesGatheredFront allows options start g fault since now out.taken out'.taken)
+  pub ended : EndsGroups allows options start g result since now out out'
   pub headline : OverHonest allows start since (λ history config. IfOk result (λ report. WritesGroupAnswers history g report.version report.rows out.taken out'.taken))
   pub prefix : OverHonest allows start since (λ history config. OnErr result (WritesGroupAnswersFront history g out.taken out'.taken))
-  pub acts : ActsOnGroups allows options start g result since now out.faults out'.faults
   pub complete : OverHonest allows start since (λ history config. since.nature.lively ≡ true → (rise : ℕ) → RisesFew options rise since now → PlanFits (group_offer (publisher history config) g start) options rise → (Rose out.faults out'.faults → ⊥) → IfErr result (MayStill (group_offer (publisher history config) g start)))
   pub still : GroupSucceedsStill allows options g start since now (Rose out.faults out'.faults) result
   pub sink : LeavesSink out out' result
 
 module _ (allows : List ℕ → ℕ → List ℕ → List ℕ → Type 0) (g : GroupData) (start : Address) (options : Options) (old new : WireState) (out out' : SinkState) where
   pub wrote : (report : Report) → Called allows g options (Ok report) old new out out' start → WritesGroupOver allows g start options report old new out.faults out'.faults out.taken out'.taken
-  wrote report k = record { whole = k.whole; gathered = k.ok; headline = k.headline; acts = k.acts }
+  wrote report k = record { whole = k.whole; acts = k.ended.acts; gathered = k.ended.ok; headline = k.headline }
 
   pub failed : (fault : ClientFault) → Called allows g options (Err fault) old new out out' start → FailsGroupOver allows g start options fault old new out.faults out'.faults out.taken out'.taken
-  failed fault k = record { front = k.front; gathered = k.err; headline = k.prefix; sink = λ e. k.sink.sink (ap Err e); complete = k.complete; still = k.still; acts = k.acts }
+  failed fault k = record { front = k.front; acts = k.ended.acts; gathered = k.ended.err; headline = k.prefix; sink = λ e. k.sink.sink (ap Err e); complete = k.complete; still = k.still }
 
 -- the answers over the one data set
 answer_of_one : (triples : List Triple) (g : GroupData) (reported : Option ℕ) (n : ℕ) (taken taken' : Option (List ℕ)) → WritesGroupAnswers (triples ∷ []) g reported n taken taken' → WritesGroupAnswer triples g n taken taken'
@@ -99,15 +97,15 @@ module _ (server : FragmentServer) (seed n : ℕ) (after : Looped FragmentServer
   server_is = publisher ((serving server).data_set ∷ []) (serving server).config
 
   asked_here : (result : Result Report ClientFault) → Called_here result → LoopsServer server seed n (Some after) (AsksGroupPlan options g)
-  asked_here result k = record { after = after; is_inside = refl; says = record { asked = k.acts.plan.asked server_is honest; requested = k.acts.plan.requested server_is honest } }
+  asked_here result k = record { after = after; is_inside = refl; says = record { asked = k.ended.acts.plan.asked server_is honest; requested = k.ended.acts.plan.requested server_is honest } }
 
   replied_here : (result : Result Report ClientFault) → Called_here result → IfOk result (λ report. LoopsServer server seed n (Some after) (AnswersGroupPlan options g report))
-  replied_here (Ok report) k = record { after = after; is_inside = refl; says = k.acts.plan.replied server_is honest }
+  replied_here (Ok report) k = record { after = after; is_inside = refl; says = k.ended.acts.plan.replied server_is honest }
   replied_here (Err fault) k = tt
 
   counted_here : CountsDue after.counts.failing after.counts.dials after.counts.faults after.provoked → (result : Result Report ClientFault) → Called_here result → options.budget < 2 ^ 63
       → IfOk result (λ report. LoopsServer server seed n (Some after) (CountsGroupOver n options g report))
-  counted_here due (Ok report) k small = record { after = after; is_inside = refl; says = counts_group server seed n after g options honest due small out.faults out'.faults report k.acts }
+  counted_here due (Ok report) k small = record { after = after; is_inside = refl; says = counts_group server seed n after g options honest due small out.faults out'.faults report k.ended.acts }
   counted_here due (Err fault) k small = tt
 
   ends_here : PlansAreRead → BasesAreRead → (serving server).config.base ≡ local_base → IsValidDataSet (serving server).data_set → IsConfig (serving server).config
@@ -117,7 +115,7 @@ module _ (server : FragmentServer) (seed n : ℕ) (after : Looped FragmentServer
   ends_here plans bases base valid config due (Err fault) k servable askable small = record {
     after = after;
     is_inside = refl;
-    says = may_end_group server seed n after g options honest (group_is_read plans bases (serving server).data_set (serving server).config g base valid config servable askable) due small out.faults out'.faults fault k.acts;
+    says = may_end_group server seed n after g options honest (group_is_read plans bases (serving server).data_set (serving server).config g base valid config servable askable) due small out.faults out'.faults fault k.ended.acts;
   }
 
 pub asks_groups : (server : FragmentServer) (seed n : ℕ) (old after : Looped FragmentServer) → old ≡ begun server seed n → (g : GroupData) (options : Options) (start : Address) → start ≡ local_base → (result : Result Report ClientFault) (out out' : SinkState)

@@ -7,6 +7,7 @@ use Rattle.rdf_terms.specs.declared.term.Triple.{Triple}
 use Rattle.tpf_base.specs.Addresses.{Address, address_text}
 use Rattle.tpf_base.specs.Links.{WireState}
 use Rattle.tpf_base.specs.Marks.{Served}
+use Rattle.template_fill.specs.declared.limits.TheConstants.{LONGEST_START}
 use Rattle.template_fill.specs.Metadata.{Config}
 use Rattle.template_fill.specs.Configurations.{IsConfig, IsValidDataSet}
 use Rattle.template_fill.specs.Answered.{AnsweredGivePages}
@@ -107,7 +108,7 @@ module _ (p : Publisher) (version : ℕ) (g : GroupData) (start : Address) where
       subst (λ (s : Publisher). IsFitAt most s told address) (sym stands) (subst (λ (n : ℕ). IsFitAt most p n address) is fit)
 
   pub group_fits : PlansAreRead → StartsAreRead → AnsweredGivePages → (allows : List ℕ → ℕ → List ℕ → List ℕ → Type 0) (options : Options) (old new : WireState)
-      → AreAskableBlocks g → length (address_text start) ≤ 65536 → (f : FitsGroupOver allows g start options p version old new) → ChoiceFits (group_offer p g start) options f.rise (versions_at g version)
+      → AreAskableBlocks g → length (address_text start) ≤ LONGEST_START → (f : FitsGroupOver allows g start options p version old new) → ChoiceFits (group_offer p g start) options f.rise (versions_at g version)
   group_fits plans starts gives allows options old new askable text f =
       let reads : AllByRecursion Reads list =
       all_flat p start g.names version Reads (blocks_of (group_tree g))

@@ -1,10 +1,10 @@
 -- The fixed terms of the blocks of a query with groups are short, as those of a query without groups.
 use Rattle.std.proofs.Common.{ℕ, zero, suc, ◌≡◌, ◌+◌, ◌≤◌, List, [], ◌∷◌, ◌++◌, Option, None, refl, sym, ap, subst, arith}
 use Rattle.std.specs.List.{AllByRecursion}
-use Rattle.std.proofs.lemmas.List.{append-nil}
 use Rattle.list_laws.proofs.Each.{all_append}
 use Rattle.bgp_core.specs.declared.pattern.Pattern.{Pattern}
 use Rattle.bgp_core.specs.Queries.{IsValidPattern}
+use Rattle.query_tokens.specs.declared.piece.TheConstants.{LONGEST_QUERY}
 use Rattle.query_words.specs.declared.word.Word.{Word}
 use Rattle.pattern_parser.specs.Prefixes.{before}
 use Rattle.pattern_parser.specs.Items.{items_after, names_after}
@@ -15,6 +15,7 @@ use Rattle.group_query.specs.Trees as trees
 use Rattle.group_query.specs.Trees.{Tree, empty, optional, union, GroupData, group_tree, blocks_of}
 use Rattle.group_parser.specs.Groups.{Element, Triples, Groups, Optional, joined, united, translated, Reading, IsBlock, AreUnions, AreElements, IsGroup}
 use Rattle.group_parser.specs.Texts.{ReadsGroups}
+use Rattle.group_parser.proofs.Fits.{blocks_joined}
 use Rattle.group_parser.proofs.Walked.{block_is_read}
 use Rattle.data_files.specs.declared.query.Grammar.TheVariants as grammars
 use Rattle.query_command.specs.Limits.{GroupsAreAskable}
@@ -30,11 +31,6 @@ ShortBlocks bs = AllByRecursion (AllByRecursion IsShortPattern) bs
 abbrev ShortTree : Tree → Type 0
 ShortTree t = ShortBlocks (blocks_of t)
 
-blocks_joined : (a b : Tree) → blocks_of (joined a b) ≡ blocks_of a ++ blocks_of b
-blocks_joined empty b = refl
-blocks_joined a empty = sym (append-nil (blocks_of a))
-blocks_joined a b = refl
-
 joined_short : (a b : Tree) → ShortTree a → ShortTree b → ShortTree (joined a b)
 joined_short a b f g = subst ShortBlocks (sym (blocks_joined a b)) (all_append (AllByRecursion IsShortPattern) (blocks_of a) (blocks_of b) f g)
 
@@ -42,7 +38,7 @@ joined_short a b f g = subst ShortBlocks (sym (blocks_joined a b)) (all_append (
 
 -- the IRIs of prefixes have at most so many bytes, and with them the tokens are within the text
 abbrev Few : ℕ → List Word → Type 0
-Few b ws = b + total ws ≤ 262144
+Few b ws = b + total ws ≤ LONGEST_QUERY
 
 abbrev ShortGroups : ℕ → Reading Tree → Type 0
 ShortGroups b G = (names : List (List ℕ)) (ws : List Word) (t : Tree) (names' : List (List ℕ)) → G names ws t names' → Few b ws → ShortTree t
@@ -102,7 +98,7 @@ groups_short text g r =
     let pro = prologue ws in
     let all = total_split (before is_select ws) ws in
     let part = total_split (before is_brace bs) bs in
-    let few : total pro + total (block bs) ≤ 262144 = omega (arith, all, part, tokens_short text ws r.reads.tokens) in
+    let few : total pro + total (block bs) ≤ LONGEST_QUERY = omega (arith, all, part, tokens_short text ws r.reads.tokens) in
     group_short (prefixes ws) (total pro) (prefix_short pro) 32 (names_after [] 0 (select_part bs)) (block bs) (group_tree g) g.names r.is.group few
 
 blocks_askable : (bs : List (List Pattern)) → AllByRecursion (AllByRecursion IsValidPattern) bs → ShortBlocks bs → AllByRecursion (AllByRecursion IsAskable) bs

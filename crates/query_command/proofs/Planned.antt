@@ -2,6 +2,7 @@
 use Rattle.std.proofs.Common.{ℕ, ◌≡◌, ◌≢◌, ◌+◌, ◌-◌, ◌*◌, ◌^◌, ◌<◌, ◌≤◌, ◌++◌, [], ◌∷◌, List, length, count_by, Option, Some, Result, Ok, Err, IfOk, IfErr, refl, sym, ap, subst, ◌∙◌, arith}
 use Rattle.std.specs.List.{AllByRecursion}
 use Rattle.std.specs.List.Sorted.{IsPermutation}
+use Rattle.list_laws.proofs.Tests.{all_numbers}
 use Rattle.list_laws.proofs.Told.{all_in}
 use Rattle.rdf_terms.specs.declared.term.Triple.{Triple}
 use Rattle.tpf_base.specs.Addresses.{Address}
@@ -44,9 +45,6 @@ sends_plan server seed n after q options a = record {
   sent = λ k below. a.sent k (omega arith) below;
 }
 
-from_none : (n : ℕ) → n - 0 ≡ n
-from_none n = omega arith
-
 -- how often it was sent
 pub bounds_requests : (server : FragmentServer) (seed n : ℕ) (after : Looped FragmentServer) (q : QueryData) (options : Options)
     → RequestsPlan (offer_of options (serving server).data_set (serving server).config q) options (wire_of (begun server seed n)) (wire_of after) → BoundsRequests options (serving server).data_set (serving server).config q (wire_of after)
@@ -56,7 +54,7 @@ bounds_requests server seed n after q options r =
       on = all.on;
       told = λ k below. all.told k (omega arith) below;
       few = λ test.
-          subst (λ (links : ℕ). over_links (λ k. count_by test (whole_requests (all.on k))) 0 links ≤ (options.retries + 1) * count_by test (plan_of options (serving server).data_set (serving server).config q)) (from_none (wire_of after).given) (all.few test);
+          subst (λ (links : ℕ). over_links (λ k. count_by test (whole_requests (all.on k))) 0 links ≤ (options.retries + 1) * count_by test (plan_of options (serving server).data_set (serving server).config q)) (all_numbers (wire_of after).given) (all.few test);
     }
 
 -- what a call did on a wire that was made for a server

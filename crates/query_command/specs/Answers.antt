@@ -8,6 +8,7 @@ use Rattle.tpf_base.specs.Links.{All, WireState}
 use Rattle.tpf_base.specs.Outside.{ShelfState}
 use Rattle.tpf_base.specs.Wrote.{SinkState}
 use Rattle.rdf_terms.specs.declared.term.Triple.{Triple}
+use Rattle.template_fill.specs.declared.limits.TheConstants.{LONGEST_START}
 use Rattle.template_fill.specs.Metadata.{Config}
 use Rattle.template_fill.specs.Bodies.{version_of}
 use Rattle.template_fill.specs.Answered.{is_answered}
@@ -119,10 +120,10 @@ FitsOver allows q start options p version old new = FitsCall allows start option
 abbrev pub OfQuery : Option Files → List ℕ → (QueryData → Type 0) → Type 0
 OfQuery told name holds = IfTold told (λ files. (q : QueryData) → HoldsQuery files name q → holds q)
 
--- where the text of the start has at most 65536 bytes, nothing stands in the way, and shelf and output did not fail, memory is wanting or the call succeeded
+-- where the text of the start has at most LONGEST_START bytes, nothing stands in the way, and shelf and output did not fail, memory is wanting or the call succeeded
 abbrev pub SucceedsOver : ShelfState → ShelfState → List ℕ → (List ℕ → ℕ → List ℕ → List ℕ → Type 0) → Address → Options → WireState → WireState → SinkState → SinkState → Result Report AnswerFault → Type 0
 SucceedsOver shelf shelf' name allows start options wire wire' out out' result =
-    length (address_text start) ≤ 65536 → ¬ (Rose shelf.faults shelf'.faults) → ¬ (Rose out.faults out'.faults)
+    length (address_text start) ≤ LONGEST_START → ¬ (Rose shelf.faults shelf'.faults) → ¬ (Rose out.faults out'.faults)
     → OfQuery shelf.told name (λ q. (p : Publisher) (version : ℕ) → FitsOver allows q start options p version wire wire' → IfErr result IsWanting)
 
 -- ---- the command

@@ -8,6 +8,7 @@ use Rattle.tpf_base.specs.Causes.{Rose, counted_by}
 use Rattle.tpf_base.specs.Links.{WireState}
 use Rattle.tpf_base.specs.Outside.{ShelfState}
 use Rattle.tpf_base.specs.Wrote.{SinkState, AppendsPrefix}
+use Rattle.template_fill.specs.declared.limits.TheConstants.{LONGEST_START}
 use Rattle.template_fill.specs.Metadata.{Config}
 use Rattle.triple_table.specs.declared.choice.Choice.{Choice}
 use Rattle.triple_table.specs.declared.choice.Choice.TheVariants.{DefaultGraph}
@@ -50,22 +51,22 @@ use Rattle.query_command.specs.Commands.{AsksFile, AsksGenerated}
 
 -- ---- over any wire
 
--- The result of a query with groups was written over a wire: the text of some rows, those that are gathered from the rows of the blocks; over a wire that is honest at the start for a history, of the answers over one version, the one that is reported, or any where the query has no block. What was done on the wire, block after block, `acts` says.
+-- The result of a query with groups was written over a wire: the text of some rows; over a wire that is honest at the start for a history, of the answers over one version, the one that is reported, or any where the query has no block. What was done on the wire, block after block (`acts`), and what was written, the rows that are gathered from those of these blocks (`gathered`), are said of the same calls.
 pub record WritesGroupOver (allows : List ℕ → ℕ → List ℕ → List ℕ → Type 0) (g : GroupData) (start : Address) (options : Options) (report : Report) (old new : WireState) (out out' : ℕ) (taken taken' : Option (List ℕ)) : Type 0 where
   pub whole : WritesGroup g report.rows taken taken'
-  pub gathered : WritesGathered allows options start g report old new taken taken'
-  pub headline : OverHonest allows start old (λ history config. WritesGroupAnswers history g report.version report.rows taken taken')
   pub acts : ActsOnGroups allows options start g (Ok report) old new out out'
+  pub gathered : WritesGathered g acts.blocks.done report taken taken'
+  pub headline : OverHonest allows start old (λ history config. WritesGroupAnswers history g report.version report.rows taken taken')
 
--- A front of such a text was written, nothing before all blocks gave their rows, and the call over the wire ended with this fault. Why, over any wire, an honest one and a lively one, `acts` says; over a lively one, where the plan of all blocks fits and the faults are few, it is want of memory, or the data changed; and want of memory, where the data did not change in the call.
+-- A front of such a text was written, nothing before all blocks gave their rows, and the call over the wire ended with this fault. What was done on the wire and why it ended, over any wire, an honest one and a lively one (`acts`), and what was written (`gathered`) are said of the same calls; over a lively one, where the plan of all blocks fits and the faults are few, it is want of memory, or the data changed; and want of memory, where the data did not change in the call.
 pub record FailsGroupOver (allows : List ℕ → ℕ → List ℕ → List ℕ → Type 0) (g : GroupData) (start : Address) (options : Options) (fault : ClientFault) (old new : WireState) (out out' : ℕ) (taken taken' : Option (List ℕ)) : Type 0 where
   pub front : WritesGroupPrefix g taken taken'
-  pub gathered : WritesGatheredFront allows options start g fault old new taken taken'
+  pub acts : ActsOnGroups allows options start g (Err fault) old new out out'
+  pub gathered : WritesGatheredFront g acts.stops.done acts.stops.rest taken taken'
   pub headline : OverHonest allows start old (λ history config. WritesGroupAnswersFront history g taken taken')
   pub sink : fault ≡ client_faults.Sink → Rose out out'
   pub complete : OverHonest allows start old (λ history config. old.nature.lively ≡ true → (rise : ℕ) → RisesFew options rise old new → PlanFits (group_offer (publisher history config) g start) options rise → (Rose out out' → ⊥) → MayStill (group_offer (publisher history config) g start) fault)
   pub still : GroupSucceedsStill allows options g start old new (Rose out out') (Err fault)
-  pub acts : ActsOnGroups allows options start g (Err fault) old new out out'
 
 -- why there is no whole answer over a wire: the query was read, so the call over the wire ended
 abbrev pub GroupCause : (List ℕ → ℕ → List ℕ → List ℕ → Type 0) → GroupData → Address → Options → WireState → WireState → SinkState → SinkState → AnswerFault → Type 0
@@ -77,13 +78,13 @@ GroupCause allows g start options wire wire' out out' (faults.Client fault) = Fa
 abbrev pub FitsGroupOver : (List ℕ → ℕ → List ℕ → List ℕ → Type 0) → GroupData → Address → Options → Publisher → ℕ → WireState → WireState → Type 0
 FitsGroupOver allows g start options p version old new = FitsCall allows start options p version (group_plan p g start version) old new
 
--- What a query with groups of a file over a wire came to, and what it left of shelf, wire and output. Where the text of the start has at most 65536 bytes, nothing stands in the way and the output did not fail, it succeeds, or memory is wanting.
+-- What a query with groups of a file over a wire came to, and what it left of shelf, wire and output. Where the text of the start has at most LONGEST_START bytes, nothing stands in the way and the output did not fail, it succeeds, or memory is wanting.
 pub record AsksServerGroups (shelf shelf' : ShelfState) (allows : List ℕ → ℕ → List ℕ → List ℕ → Type 0) (wire wire' : WireState) (out out' : SinkState) (name : List ℕ) (start : Address) (options : Options) (result : Result Report AnswerFault) (g : GroupData) : Type 0 where
   pub is_read : IsOfGroupFile (grammar_of options) shelf.told name g
   pub exact : QueryDecides (grammar_of options) shelf shelf' name (λ outcome. outcome ≡ reads_groups g)
   pub answers : IfOk result (λ report. WritesGroupOver allows g start options report wire wire' out.faults out'.faults out.taken out'.taken)
   pub cause : IfErr result (GroupCause allows g start options wire wire' out out')
-  pub complete : length (address_text start) ≤ 65536 → ¬ (Rose out.faults out'.faults) → (p : Publisher) (version : ℕ) → FitsGroupOver allows g start options p version wire wire' → IfErr result IsWanting
+  pub complete : length (address_text start) ≤ LONGEST_START → ¬ (Rose out.faults out'.faults) → (p : Publisher) (version : ℕ) → FitsGroupOver allows g start options p version wire wire' → IfErr result IsWanting
   pub reads : ReadsNamed name shelf shelf' (FailsByFile result)
   pub output : KeepsOutput out out' result
 

@@ -1,18 +1,9 @@
 // How many rows the requests of a query may carry.
-ghost use Rattle.std.specs.Prelude.{◌≡◌, ◌≤◌};
-ghost use Rattle.rdf_terms.specs.declared.limits.TheConstants.{MOST_ROWS};
+ghost use Rattle.std.specs.Prelude.{◌≡◌};
 ghost use Rattle.query_command.specs.Blocks.{in_blocks, grammar_of};
 
 use data_files::Grammar;
 use tpf_client::Options;
-
-/// A request carries one row at least, and no more than an address may have. The call does nothing; it tells a proof of it.
-pub(crate) fn is_sized(options: &Options)
-    ensures low { 1 ≤ options.now.block }
-    ensures high { options.now.block ≤ MOST_ROWS }
-{
-    options.block.get();
-}
 
 /// Whether a request may carry more rows than one.
 pub(crate) fn in_blocks(options: &Options) -> bool

@@ -10,11 +10,10 @@ ghost use Rattle.query_command.specs.Plans.{SendsPlan, BoundsRequests, RepliesRo
 ghost use Rattle.query_command.specs.Groups.{GeneratedAsked};
 ghost use Rattle.query_command.specs.Over.{AsksGeneratedOver};
 
-use crate::AnswerFault;
 use crate::group_wire::ask_groups;
-use crate::limits::commands_keep_limits;
 use crate::local_query::{OverWire, ask_server};
 use crate::start::{config_of, local_start};
+use crate::{AnswerFault, laws};
 use bgp_core::Query;
 use data_files::{DataFault, Grammar, read_query};
 use fragment_server::{FragmentConnection, FragmentServer};
@@ -27,7 +26,6 @@ use std::sync::Wait;
 use template_fill::WebAddress;
 use tpf_base::{Drain, OutOfMemory, Shelf};
 use tpf_client::{BlockSize, ClientFault, Options};
-use triple_table::served_is_one;
 
 /// The most triples of a page.
 const PAGE: u64 = 100;
@@ -172,8 +170,8 @@ pub fn query_generated<R: Wait, F: Shelf>(
     requires most { persons ≤ 1000000 }
     ensures { GeneratedAsked (F.state shelf.old) (F.state shelf.new) inside.new persons query.now result }
 {
-    commands_keep_limits();
-    served_is_one();
+    laws::commands_keep_limits();
+    triple_table::laws::served_is_one();
     let query = match read_query(alloc, shelf, query, Grammar::Groups) {
         Ok(query) => query,
         Err(fault) => return Err(AnswerFault::Query(fault)),

@@ -1,59 +1,19 @@
 // A query with groups over a wire that is made for it.
 ghost use Rattle.std.specs.Prelude.{◌≡◌, ◌≤◌};
-ghost use Rattle.std.specs.List.{AllByRecursion};
-ghost use Rattle.bgp_core.specs.Queries.{IsValidPattern};
 ghost use Rattle.file_server.specs.Servers.{serving};
 ghost use Rattle.query_command.specs.Loops.{local_base};
-ghost use Rattle.query_command.specs.Over.{IsValidStep, AreValidBlocks, AsksGroups};
+ghost use Rattle.query_command.specs.Over.{AsksGroups};
 
-use crate::local_query::{OverWire, is_few};
-use bgp_core::Pattern;
+use crate::laws;
+use crate::local_query::OverWire;
 use fragment_server::{FragmentConnection, FragmentServer};
 use group_patterns::answer;
-use group_query::{GroupQuery, Step};
+use group_query::GroupQuery;
 use loop_wire::LoopWire;
-use plan_laws::plans_are_read;
 use std::alloc::Global;
 use std::sync::Wait;
 use tpf_base::{Failing, Sink};
 use tpf_client::{ClientFault, Report};
-
-/// That the fixed parts of patterns are valid terms. It does nothing.
-fn patterns_are_valid(patterns: &[Pattern])
-    ensures { AllByRecursion IsValidPattern patterns.now }
-{
-    for pattern in patterns {
-        pattern.is_valid();
-    }
-}
-
-/// That the fixed parts of a block are valid terms. It does nothing.
-fn step_is_valid(step: &Step)
-    ensures { IsValidStep step.now }
-{
-    match step {
-        Step::Block(patterns) => patterns_are_valid(patterns.as_slice()),
-        Step::Empty => {}
-        Step::Join => {}
-        Step::Optional => {}
-        Step::Union => {}
-    }
-}
-
-fn steps_are_valid(steps: &[Step])
-    ensures { AllByRecursion IsValidStep steps.now }
-{
-    for step in steps {
-        step_is_valid(step);
-    }
-}
-
-/// That the fixed parts of all blocks are valid terms. It does nothing.
-pub(crate) fn blocks_are_valid(query: &GroupQuery)
-    ensures { AreValidBlocks query.now }
-{
-    steps_are_valid(query.steps());
-}
 
 /// Asks a server a query with groups over a wire that is made for it, of this seed, on which each
 /// `fail_every`-th dial fails, and leaves the wire.
@@ -75,10 +35,10 @@ pub(crate) fn ask_groups<R: Wait, K: Sink>(
     ensures { AsksGroups server asked.now.seed asked.now.fail_every asked.now.options query.now result
         inside.new (K.state out.old) (K.state out.new) }
 {
-    plans_are_read();
-    is_few(&server);
+    plan_laws::plans_are_read();
+    laws::is_few(&server);
     server.server().is_valid();
-    blocks_are_valid(query);
+    laws::blocks_are_valid(query);
     let failing = Failing::Dials(asked.fail_every);
     let mut wire: LoopWire<FragmentConnection> = LoopWire::new(alloc, server, asked.seed, failing);
     let start = asked.start;

@@ -15,15 +15,12 @@ mod blocks;
 mod fault;
 mod generated_query;
 mod group_wire;
-mod limits;
+pub mod laws;
 mod local_query;
 mod server_query;
 mod start;
-mod wires;
 
 pub use fault::AnswerFault;
 pub use generated_query::{Counts, query_generated};
-pub use limits::commands_keep_limits;
 pub use local_query::{LocalQuery, local};
 pub use server_query::query;
-pub use wires::wires_in_process_are_honest;

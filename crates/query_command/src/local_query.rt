@@ -1,5 +1,5 @@
 // The query of a file through a server in the same process.
-ghost use Rattle.std.specs.Prelude.{◌≡◌, ◌<◌, ◌≤◌, ◌^◌, true, length, None, IfOk, IfErr, IsErrOf, OnErr};
+ghost use Rattle.std.specs.Prelude.{◌≡◌, ◌<◌, ◌≤◌, ◌^◌, true, None, IfOk, IfErr, IsErrOf, OnErr};
 ghost use Rattle.std.specs.List.{AllByRecursion};
 ghost use Rattle.data_files.specs.Kept.{KeepsSink};
 ghost use Rattle.file_server.specs.Servers.{serving};
@@ -9,18 +9,16 @@ ghost use Rattle.query_command.specs.Loops.{LoopsServer, LeavesHonest, WritesLoo
 ghost use Rattle.query_command.specs.Plans.{SendsPlan, BoundsRequests, EndsAsPlanned, offer_of};
 ghost use Rattle.query_command.specs.Groups.{FileAsked};
 
-use crate::AnswerFault;
-use crate::blocks::{grammar_of, in_blocks, is_sized};
+use crate::blocks::{grammar_of, in_blocks};
 use crate::group_wire::ask_groups;
-use crate::limits::commands_keep_limits;
 use crate::start::{config_of, local_start};
+use crate::{AnswerFault, laws};
 use bgp_core::Query;
 use data_files::{DataFault, read_query};
 use file_server::server_of_file;
 use fragment_server::{FragmentConnection, FragmentServer};
 use group_parser::Asked;
 use loop_wire::LoopWire;
-use plan_laws::plans_are_read;
 use std::alloc::Global;
 use std::sync::Wait;
 use template_fill::WebAddress;
@@ -46,13 +44,6 @@ pub struct LocalQuery<'a> {
     pub seed: u64,
     /// Each `fail_every`-th dial of the wire fails; none for 0.
     pub fail_every: u64,
-}
-
-/// A table has fewer triples than a page can count. The call does nothing; it tells a proof of it.
-pub(crate) fn is_few(server: &FragmentServer)
-    ensures { length (serving server.now).data_set < 2 ^ 64 }
-{
-    let _count = server.server().table().len();
 }
 
 /// What is asked over a wire that is made for it.
@@ -108,9 +99,9 @@ pub(crate) fn ask_server<R: Wait, K: Sink>(
     ensures output { KeepsSink (K.state out.old) (K.state out.new) }
     ensures spared { (K.state out.old).faultless ≡ true → IsErrOf result ClientFault.Sink → ⊥ }
 {
-    plans_are_read();
-    is_sized(&asked.options);
-    is_few(&server);
+    plan_laws::plans_are_read();
+    laws::is_sized(&asked.options);
+    laws::is_few(&server);
     server.server().is_valid();
     let failing = Failing::Dials(asked.fail_every);
     let mut wire: LoopWire<FragmentConnection> = LoopWire::new(alloc, server, asked.seed, failing);
@@ -171,7 +162,7 @@ pub fn local<R: Wait, F: Shelf, K: Sink>(
     ensures { FileAsked (F.state shelf.old) (F.state shelf.new) (K.state out.old) (K.state out.new)
         inside.new (local_view asked.now) result }
 {
-    commands_keep_limits();
+    laws::commands_keep_limits();
     let Ok(start) = local_start(alloc) else {
         return Err(AnswerFault::Data(DataFault::OutOfMemory));
     };

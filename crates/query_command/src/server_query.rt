@@ -3,17 +3,14 @@ ghost use Rattle.std.specs.Prelude.{◌≤◌};
 ghost use Rattle.tpf_base.specs.Links.{SameAllowed};
 ghost use Rattle.query_command.specs.Groups.{ServerAsked};
 
-use crate::AnswerFault;
-use crate::blocks::{grammar_of, is_sized};
-use crate::group_wire::blocks_are_valid;
-use crate::limits::commands_keep_limits;
+use crate::blocks::grammar_of;
+use crate::{AnswerFault, laws};
 use data_files::read_query;
 use group_parser::Asked;
 use group_patterns::answer;
-use plan_laws::plans_are_read;
 use std::alloc::Global;
 use std::sync::Wait;
-use template_fill::{WebAddress, pages_are_answered};
+use template_fill::WebAddress;
 use tpf_base::{Dial, Shelf, Sink};
 use tpf_client::{Options, Report, query as query_server};
 
@@ -28,7 +25,7 @@ use tpf_client::{Options, Report, query as query_server};
 /// Over a faultless shelf that holds the name the shelf does not fail, as long as numbers are left
 /// (`reads`). A faultless output does not fail (`output`).
 ///
-/// Where the text of the start has at most 65536 bytes, the wire's other ends answer as a server of data
+/// Where the text of the start has at most `LONGEST_START` (65536) bytes, the wire's other ends answer as a server of data
 /// within the limits of the program does, the plan fits, the faults of the wire rise at most as often as a
 /// request may be sent again, and shelf and output do not fail, the call succeeds unless memory runs out
 /// (`complete`).
@@ -57,10 +54,10 @@ pub fn query<R: Wait, F: Shelf, W: Dial, K: Sink>(
         name.now start.now options.now result }
     ensures allowed { SameAllowed (W.allows wire.old) (W.allows wire.new) }
 {
-    commands_keep_limits();
-    plans_are_read();
-    pages_are_answered();
-    is_sized(options);
+    laws::commands_keep_limits();
+    plan_laws::plans_are_read();
+    template_fill::laws::pages_are_answered();
+    laws::is_sized(options);
     let query = match read_query(alloc, shelf, name, grammar_of(options)) {
         Ok(query) => query,
         Err(fault) => return Err(AnswerFault::Query(fault)),
@@ -74,7 +71,7 @@ pub fn query<R: Wait, F: Shelf, W: Dial, K: Sink>(
             }
         }
         Asked::Groups(query) => {
-            blocks_are_valid(&query);
+            laws::blocks_are_valid(&query);
             match answer(rt, alloc, &query, start, options, wire, out) {
                 Ok(report) => Ok(report),
                 Err(fault) => Err(AnswerFault::Client(fault)),

@@ -4,7 +4,7 @@ ghost use Rattle.query_command.specs.Loops.{local_base, config_of};
 
 use hydra_controls::Config;
 use std::alloc::Global;
-use template_fill::{AddressFault, WebAddress, an_address_is_one};
+use template_fill::{AddressFault, WebAddress, laws};
 use tpf_base::OutOfMemory;
 
 /// Where the fragments of a file stand that is served in the same process.
@@ -14,7 +14,7 @@ const BASE: &str = "http://localhost/data";
 pub(crate) fn local_start(alloc: Global) -> Result<WebAddress, OutOfMemory>
     ensures { IfOk result (λ base. base ≡ local_base) }
 {
-    an_address_is_one();
+    laws::an_address_is_one();
     match WebAddress::read(alloc, BASE) {
         Ok(base) => Ok(base),
         Err(AddressFault::BadAddress) => unreachable!(),

@@ -64,7 +64,7 @@ returns-in-Ok-answer-clause-asks g c =
     let e = c.in-Ok-answer.ensures in
     let q = c.in-Groups.query in
     sums.Groups q (server_ok _ _ c.args.name.now _ c.args.start.now c.args.options.now _ _ _ _ q (subst (λ (grammar : Grammar). IsOfGroupFile grammar (g.F.Shelf.state c.args.shelf.now).told c.args.name.now q) c.grammar_of.ensures (group_file _ _ _ refl c.args.name.now c.in-Ok.query q c.in-Groups.is c.in-Ok.ensures.ok)) c.in-Ok-answer.report
-    (record { whole = e.whole; front = e.front; ok = e.ok; err = e.err; headline = e.headline; prefix = e.prefix; acts = e.acts; complete = e.complete; still = e.still; sink = e.sink })
+    (record { whole = e.whole; front = e.front; ended = e.ended; headline = e.headline; prefix = e.prefix; complete = e.complete; still = e.still; sink = e.sink })
     (reads_as _ _ _ _ _ (λ e. cc) (λ e. absurd e) c.in-Ok.ensures.reads))
 
 pub returns-clause-asks : goal.returns-clause-asks
@@ -73,5 +73,5 @@ returns-clause-asks g c =
     let q = c.in-Groups.query in
     sums.Groups q (server_err _ _ c.args.name.now _ c.args.start.now c.args.options.now _ _ _ _ q (subst (λ (grammar : Grammar). IsOfGroupFile grammar (g.F.Shelf.state c.args.shelf.now).told c.args.name.now q) c.grammar_of.ensures (group_file _ _ _ refl c.args.name.now c.in-Ok.query q c.in-Groups.is c.in-Ok.ensures.ok))
     c.plans_are_read.ensures.plan c.plans_are_read.ensures.start c.pages_are_answered.ensures.answered c.commands_keep_limits.ensures.groups c.blocks_are_valid.ensures c.in-Err-answer.fault
-    (record { whole = e.whole; front = e.front; ok = e.ok; err = e.err; headline = e.headline; prefix = e.prefix; acts = e.acts; complete = e.complete; still = e.still; sink = e.sink })
+    (record { whole = e.whole; front = e.front; ended = e.ended; headline = e.headline; prefix = e.prefix; complete = e.complete; still = e.still; sink = e.sink })
     (reads_as _ _ _ _ _ (λ e. cc) (λ e. absurd e) c.in-Ok.ensures.reads))

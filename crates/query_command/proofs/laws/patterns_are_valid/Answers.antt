@@ -1,7 +1,7 @@
 use Rattle.std.proofs.Common.{◌<◌, length, arith}
 use Rattle.bgp_core.specs.Queries.{IsValidPattern}
 use Rattle.query_command.proofs.ValidBlocks.{all_more}
-use Rattle.query_command.proofs.group_wire.patterns_are_valid.Goals as goal
+use Rattle.query_command.proofs.laws.patterns_are_valid.Goals as goal
 
 pub loop-pattern-preserved : goal.loop-pattern-preserved
 loop-pattern-preserved c =

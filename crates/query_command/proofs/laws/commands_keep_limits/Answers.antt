@@ -1,6 +1,6 @@
 use Rattle.query_command.proofs.Bounded.{files_are_servable, generated_are_servable, queries_are_askable}
 use Rattle.query_command.proofs.GroupTerms.{groups_are_askable}
-use Rattle.query_command.proofs.limits.commands_keep_limits.Goals as goal
+use Rattle.query_command.proofs.laws.commands_keep_limits.Goals as goal
 
 pub returns-clause-files : goal.returns-clause-files
 returns-clause-files c = files_are_servable c.what_is_read_is_readable.ensures c.served_terms_are_short.ensures

@@ -4,7 +4,7 @@ use Rattle.bgp_core.specs.Queries.{IsValidPattern}
 use Rattle.group_query.specs.declared.step.Step.{Step}
 use Rattle.group_query.specs.Trees.{tree_of, blocks_of}
 use Rattle.query_command.proofs.ValidBlocks.{valid_blocks}
-use Rattle.query_command.proofs.group_wire.blocks_are_valid.Goals as goal
+use Rattle.query_command.proofs.laws.blocks_are_valid.Goals as goal
 
 pub returns : goal.returns
 returns c =

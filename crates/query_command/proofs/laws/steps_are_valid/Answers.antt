@@ -1,7 +1,7 @@
 use Rattle.std.proofs.Common.{◌<◌, length, arith}
 use Rattle.query_command.specs.Over.{IsValidStep}
 use Rattle.query_command.proofs.ValidBlocks.{all_more}
-use Rattle.query_command.proofs.group_wire.steps_are_valid.Goals as goal
+use Rattle.query_command.proofs.laws.steps_are_valid.Goals as goal
 
 pub loop-step-preserved : goal.loop-step-preserved
 loop-step-preserved c =
