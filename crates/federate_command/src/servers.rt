@@ -6,7 +6,7 @@ ghost use Rattle.federate_command.specs.Commands.{ServersAsked};
 
 use data_files::read_patterns;
 use federated_query::federate;
-use query_command::{AnswerFault, commands_keep_limits};
+use query_command::{AnswerFault, laws};
 use std::alloc::Global;
 use std::sync::Wait;
 use template_fill::WebAddress;
@@ -24,7 +24,7 @@ use tpf_client::{Options, Report};
 /// (`output`).
 ///
 /// The call over the wire promises all that `federate` of `federated_query` does (`ends`). Where the texts of the starts have at
-/// most 65536 bytes, the wire's other ends answer as servers do, each over one version of its data, which is within the limits of
+/// most `LONGEST_START` (65536) bytes, the wire's other ends answer as servers do, each over one version of its data, which is within the limits of
 /// what is served and answers the start (a server may have read its data again before the call), the bodies and the number of the
 /// requests are within the options, the faults of the wire rise at most as often as a request may be sent again, and shelf and
 /// output do not fail, it succeeds unless memory runs out (`complete`).
@@ -48,7 +48,7 @@ pub fn query_servers<R: Wait, F: Shelf, W: Dial, K: Sink>(
         name.now starts.now options.now result }
     ensures allowed { SameAllowed (W.allows wire.old) (W.allows wire.new) }
 {
-    commands_keep_limits();
+    laws::commands_keep_limits();
     let query = match read_patterns(alloc, shelf, name) {
         Ok(query) => query,
         Err(fault) => return Err(AnswerFault::Query(fault)),
