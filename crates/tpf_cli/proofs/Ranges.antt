@@ -1,5 +1,5 @@
 -- The words of a command keep to their ranges.
-use Rattle.std.proofs.Common.{ℕ, ◌≡◌, ◌≤◌, ◌<◌, ◌⊎◌, inl, inr, List, [], ◌∷◌, Bool, true, false, not, ◌&&◌, nat_le, length, is_some, Option, Some, None, codes, if◌then◌else◌, refl, sym, ap, ◌∙◌, subst, true≢false, arith}
+use Rattle.std.proofs.Common.{ℕ, ◌≡◌, ◌≤◌, ◌<◌, ◌+◌, ◌⊎◌, inl, inr, List, [], ◌∷◌, Bool, true, false, not, ◌&&◌, nat_le, length, is_some, Option, Some, None, codes, if◌then◌else◌, refl, sym, ap, ◌∙◌, subst, true≢false, arith, lit≤}
 use Rattle.std.proofs.lemmas.Bool.{and_parts, or_parts, not-true}
 use Rattle.std.proofs.lemmas.Bool.Decides.{nat_tests}
 use Rattle.std.proofs.lemmas.List.Elements.{All-nil, All-cons}
@@ -9,8 +9,10 @@ use Rattle.std.specs.List.{All, AllByRecursion, list_any}
 use Rattle.list_laws.specs.Options.{◌>>=◌, when}
 use Rattle.list_laws.proofs.Options.{some_same, bind_some, when_some, map_some}
 use Rattle.tpf_base.specs.Addresses.{Address, authority_of}
+use Rattle.template_fill.specs.declared.limits.TheConstants.{LONGEST_START}
 use Rattle.template_fill.specs.Configurations.{HasReloadPath, is_reload_path}
 use Rattle.template_fill.specs.ReadAddress.{read_address}
+use Rattle.command_words.specs.declared.values.TheConstants.{LONGEST_TYPED}
 use Rattle.command_words.specs.declared.command.ClientWords.{ClientWords}
 use Rattle.command_words.specs.Words.{Text, Values, Form, arguments}
 use Rattle.command_words.specs.Commands.{Command, Federated, federate, local_form, query_form, federate_form, serve_form, make_form, is_number, number_after, number_of, number_or, number_in, count_of, url_of, without_query, base_of, reload_of, choice_in, page_in, client_in, url_names, urls_in, url_and, has_authority, are_apart, servers_in, federate_with, rows_in, seed_in, local_from, query_from, federate_from, serve_from, make_from, words_of, command_of, local_of, query_of, federate_of, serve_of, make_of}
@@ -72,12 +74,16 @@ local_range values c e =
     let p = page_range values page.0 page.1 in
     subst IsInRange (some_same fail_every.2) (p.0, p.1, client_range values client.0 client.1)
 
+-- there is room for what an address that is typed becomes
+room : LONGEST_TYPED + 269 ≤ LONGEST_START
+room = lit≤ tt
+
 is_typed : (text : Text) (url : Address) → url_of text ≡ Some url → IsTyped url
 is_typed text url e =
-    let given = bind_some (when (nat_le (length text) 2048) text) read_address url e in
-    let p = when_some (nat_le (length text) 2048) text given.0 given.1 in
-    let short : length text ≤ 2048 = grind (arith, nat_tests, p.0) in
-    omega (arith, short, ap length p.1, read_length given.0 url given.2)
+    let given = bind_some (when (nat_le (length text) LONGEST_TYPED) text) read_address url e in
+    let p = when_some (nat_le (length text) LONGEST_TYPED) text given.0 given.1 in
+    let short : length text ≤ LONGEST_TYPED = grind (arith, nat_tests, p.0) in
+    omega (arith, short, room, ap length p.1, read_length given.0 url given.2)
 
 query_range : (values : Values) (c : Command) → query_from values ≡ Some c → IsInRange c
 query_range values c e =

@@ -7,12 +7,11 @@ use Rattle.std.specs.Str.Parse.{digits_value}
 use Rattle.std.proofs.lemmas.Bool.{and_parts}
 use Rattle.std.proofs.lemmas.Fmt.{length-decimal-le}
 use Rattle.std.proofs.lemmas.List.{length-drop, length-map}
+use Rattle.list_laws.proofs.Options.{when_some, bind_some, map_some}
 use Rattle.tpf_base.specs.Addresses.{Address, address_text, authority_text, is_host, is_host_byte}
 use Rattle.template_fill.specs.ReadAddress.{Spelled, ◌>>=◌, when, after_scheme, is_port_text, is_rest, normal, opened, port_after, port_part, read_address, read_spelled, rooted}
 use Rattle.template_fill.proofs.Addresses.{target-parts}
 use Rattle.template_fill.proofs.Ports.{above_first}
-use Rattle.template_fill.proofs.Reading.{bind-inv, when-inv}
-use Rattle.list_laws.proofs.Options.{map_some}
 use Rattle.plan_laws.proofs.Starts.{text_length}
 
 -- ---- the parts of an address
@@ -64,7 +63,7 @@ port_read bytes p h = go (opened 58 bytes) refl h
     go None e h = let same : (80, bytes) ≡ p = cc in subst (HasPort bytes) same (record { high = omega arith; rest = omega arith })
     go (Some text) e h =
         let digits = take_while is_ascii_digit text in
-        let w = when-inv (is_port_text digits) (digits_value 10 digits, drop (length digits) text) p h in
+        let w = when_some (is_port_text digits) (digits_value 10 digits, drop (length digits) text) p h in
         subst (HasPort bytes) w.1 (record { high = (above_first digits w.0).2; rest = omega (arith, opened_length 58 bytes text e, length-drop (length digits) text) })
 
 abbrev spelled_with : List ℕ → ℕ → List ℕ → Spelled
@@ -82,12 +81,12 @@ same_parts n one other is h = subst (HasParts n) is h
 spelled_parts : (text : List ℕ) (s : Spelled) → read_spelled text ≡ Some s → HasParts (length text) s
 unfolding read_spelled after_scheme
 spelled_parts text s h =
-    let a = bind-inv (after_scheme text) (λ rest. when (is_host (take_while is_host_byte rest)) (take_while is_host_byte rest) >>= (λ host. port_part (drop (length host) rest) >>= (λ p. when (is_rest p.1) (spelled_with host p.0 p.1)))) s h in
-    let n = bind-inv (when (is_host (take_while is_host_byte a.0)) (take_while is_host_byte a.0)) (λ host. port_part (drop (length host) a.0) >>= (λ p. when (is_rest p.1) (spelled_with host p.0 p.1))) s a.2 in
-    let own = when-inv (is_host (take_while is_host_byte a.0)) (take_while is_host_byte a.0) n.0 n.1 in
-    let p = bind-inv (port_part (drop (length n.0) a.0)) (λ p. when (is_rest p.1) (spelled_with n.0 p.0 p.1)) s n.2 in
+    let a = bind_some (after_scheme text) (λ rest. when (is_host (take_while is_host_byte rest)) (take_while is_host_byte rest) >>= (λ host. port_part (drop (length host) rest) >>= (λ p. when (is_rest p.1) (spelled_with host p.0 p.1)))) s h in
+    let n = bind_some (when (is_host (take_while is_host_byte a.0)) (take_while is_host_byte a.0)) (λ host. port_part (drop (length host) a.0) >>= (λ p. when (is_rest p.1) (spelled_with host p.0 p.1))) s a.2 in
+    let own = when_some (is_host (take_while is_host_byte a.0)) (take_while is_host_byte a.0) n.0 n.1 in
+    let p = bind_some (port_part (drop (length n.0) a.0)) (λ p. when (is_rest p.1) (spelled_with n.0 p.0 p.1)) s n.2 in
     let port = port_read (drop (length n.0) a.0) p.0 p.1 in
-    let r = when-inv (is_rest p.0.1) (spelled_with n.0 p.0.0 p.0.1) s p.2 in
+    let r = when_some (is_rest p.0.1) (spelled_with n.0 p.0.0 p.0.1) s p.2 in
     same_parts (length text) (spelled_with n.0 p.0.0 p.0.1) s r.1 (record {
       host = host_length n.0 (subst (λ (xs : List ℕ). is_host xs ≡ true) own.1 own.0);
       port = port.high;
@@ -95,7 +94,7 @@ spelled_parts text s h =
     })
   where
     after_length : (after : List ℕ) → after_scheme text ≡ Some after → length after ≤ length text
-    after_length after e = let w = when-inv _ (drop 7 text) after e in omega (arith, length-drop 7 text, ap length w.1)
+    after_length after e = let w = when_some _ (drop 7 text) after e in omega (arith, length-drop 7 text, ap length w.1)
 
 normal_length : (n : ℕ) (s : Spelled) → HasParts n s → length (address_text (normal s)) ≤ n + 269
 normal_length n s h =

@@ -3,6 +3,7 @@ use Rattle.std.specs.Prelude.{◌≡◌, ◌≤◌, ◌<◌, length, None}
 use Rattle.std.specs.List.{AllByRecursion}
 use Rattle.tpf_base.specs.Addresses.{Address, address_text}
 use Rattle.rdf_terms.specs.declared.limits.TheConstants.{MOST_ROWS}
+use Rattle.template_fill.specs.declared.limits.TheConstants.{LONGEST_START}
 use Rattle.template_fill.specs.Configurations.{HasReloadPath}
 use Rattle.command_words.specs.declared.command.ClientWords.{ClientWords}
 use Rattle.command_words.specs.Commands.{Command, local, query, federate, serve, make}
@@ -17,9 +18,9 @@ pub record IsClient (client : ClientWords) : Type 0 where
   pub few : client.links ≤ 256
   pub budget : client.budget ≤ 1000000000000
 
--- an address is typed with at most 2048 bytes, and its text is not much longer
+-- an address is typed with at most LONGEST_TYPED bytes, and its text is not much longer
 abbrev pub IsTyped : Address → Type 0
-IsTyped url = length (address_text url) ≤ 65536
+IsTyped url = length (address_text url) ≤ LONGEST_START
 
 -- the numbers are in their ranges, no address is longer than it may be typed, there is a server and no two have one authority, a base has no query part, and the path of a reload is a written one beside the base's
 abbrev pub IsInRange : Command → Type 0
