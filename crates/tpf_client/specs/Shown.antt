@@ -35,3 +35,9 @@ pub record WritesShown (ran : List PoolEvent → Pooled → Type 0) (sources : S
 abbrev pub ShowsRest : (allows : List ℕ → ℕ → List ℕ → List ℕ → Type 0) (most : ℕ) (sources : Sources) (q : QueryData) (starts : List Address) (forms : List Form) (versions : Versions) (budget : ℕ) (fault : ClientFault) (old new : Pooled) (wire wire' : WireState) (before now : ℕ) (taken taken' : Option (List ℕ)) → WritesLess allows most sources q starts forms versions budget fault old new wire wire' taken taken' → Type 0
 ShowsRest allows most sources q starts forms versions budget fault old new wire wire' before now taken taken' (PartOf events rows j text) = ShowsRows fault before now q rows taken taken'
 ShowsRest allows most sources q starts forms versions budget fault old new wire wire' before now taken taken' (WholeOf events rows j e text) = IsLocal fault
+
+-- A call that ended with a fault behind the start pages wrote less than the whole text, and shows all rows that it gave.
+abbrev pub ShowsLess : (allows : List ℕ → ℕ → List ℕ → List ℕ → Type 0) (most : ℕ) (sources : Sources) (q : QueryData) (starts : List Address) (forms : List Form) (versions : Versions) (budget : ℕ) (fault : ClientFault) (old new : Pooled) (wire wire' : WireState) (out out' : SinkState) → Type 0
+ShowsLess allows most sources q starts forms versions budget fault old new wire wire' out out' =
+    (less : WritesLess allows most sources q starts forms versions budget fault old new wire wire' out.taken out'.taken)
+    × ShowsRest allows most sources q starts forms versions budget fault old new wire wire' out.faults out'.faults out.taken out'.taken less

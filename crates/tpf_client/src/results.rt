@@ -15,7 +15,7 @@ ghost use Rattle.tpf_client.specs.Sinks.{LeavesSink};
 ghost use Rattle.tpf_client.specs.Told.{told_at};
 ghost use Rattle.tpf_client.specs.Sources.{sources_of};
 ghost use Rattle.tpf_client.specs.Calls.{Joins, JoinsSome, GathersRest, WritesRest, WritesLess, WritesAll, WritesSome, Returns, Ran, most_behind, most_over};
-ghost use Rattle.tpf_client.specs.Shown.{WritesShown, ShowsRest};
+ghost use Rattle.tpf_client.specs.Shown.{WritesShown, ShowsLess};
 
 use crate::asks::Asks;
 use crate::fault::of_sink;
@@ -135,19 +135,12 @@ fn write_joined<R: Wait, E: Evaluates + Drop, W: Dial, K: Sink>(
         call.entry.query.now call.entry.starts.now pages.forms
         (told_at call.entry.starts.now pages.versions.items) call.entry.options.now.budget fault asks.old asks.new
         (W.state wire.old) (W.state wire.new) (K.state out.old).taken (K.state out.new).taken) }
-    ensures shown { IfErr result (λ fault. (less : WritesLess (W.allows wire.old)
+    ensures shown { IfErr result (λ fault. ShowsLess (W.allows wire.old)
         (most_behind call.entry.options.now call.entry.query.now (length pages.forms))
         (sources_of E.Source E.fits E.is_true E.rows E.plan E.reported call.entry.options.now.block)
         call.entry.query.now call.entry.starts.now pages.forms
         (told_at call.entry.starts.now pages.versions.items) call.entry.options.now.budget fault asks.old asks.new
-        (W.state wire.old) (W.state wire.new) (K.state out.old).taken (K.state out.new).taken)
-        × ShowsRest (W.allows wire.old)
-        (most_behind call.entry.options.now call.entry.query.now (length pages.forms))
-        (sources_of E.Source E.fits E.is_true E.rows E.plan E.reported call.entry.options.now.block)
-        call.entry.query.now call.entry.starts.now pages.forms
-        (told_at call.entry.starts.now pages.versions.items) call.entry.options.now.budget fault asks.old asks.new
-        (W.state wire.old) (W.state wire.new) (K.state out.old).faults (K.state out.new).faults
-        (K.state out.old).taken (K.state out.new).taken less) }
+        (W.state wire.old) (W.state wire.new) (K.state out.old) (K.state out.new)) }
     ensures sink { LeavesSink (K.state out.old) (K.state out.new) result }
     ensures allowed { SameAllowed (W.allows wire.old) (W.allows wire.new) }
 {
@@ -192,19 +185,12 @@ fn write_rows<R: Wait, E: Evaluates + Drop, W: Dial, K: Sink>(
         call.entry.query.now call.entry.starts.now pages.forms
         (told_at call.entry.starts.now pages.versions.items) call.entry.options.now.budget fault asks.old asks.new
         (W.state wire.old) (W.state wire.new) (K.state out.old).taken (K.state out.new).taken) }
-    ensures shown { IfErr result (λ fault. (less : WritesLess (W.allows wire.old)
+    ensures shown { IfErr result (λ fault. ShowsLess (W.allows wire.old)
         (most_behind call.entry.options.now call.entry.query.now (length pages.forms))
         (sources_of E.Source E.fits E.is_true E.rows E.plan E.reported call.entry.options.now.block)
         call.entry.query.now call.entry.starts.now pages.forms
         (told_at call.entry.starts.now pages.versions.items) call.entry.options.now.budget fault asks.old asks.new
-        (W.state wire.old) (W.state wire.new) (K.state out.old).taken (K.state out.new).taken)
-        × ShowsRest (W.allows wire.old)
-        (most_behind call.entry.options.now call.entry.query.now (length pages.forms))
-        (sources_of E.Source E.fits E.is_true E.rows E.plan E.reported call.entry.options.now.block)
-        call.entry.query.now call.entry.starts.now pages.forms
-        (told_at call.entry.starts.now pages.versions.items) call.entry.options.now.budget fault asks.old asks.new
-        (W.state wire.old) (W.state wire.new) (K.state out.old).faults (K.state out.new).faults
-        (K.state out.old).taken (K.state out.new).taken less) }
+        (W.state wire.old) (W.state wire.new) (K.state out.old) (K.state out.new)) }
     ensures sink { LeavesSink (K.state out.old) (K.state out.new) result }
     ensures allowed { SameAllowed (W.allows wire.old) (W.allows wire.new) }
 {
