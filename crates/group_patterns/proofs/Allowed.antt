@@ -30,7 +30,7 @@ abbrev pub reported : {A : Type 0} → (A → Report) → Result A ClientFault �
 reported told (Ok x) = Ok (told x)
 reported told (Err fault) = Err fault
 
-if-told : {A : Type 0} (told : A → Report) (r : Result A ClientFault) (P Q : Report → Type 0) → ((report : Report) → P report → Q report) → IfOk r (λ x. P (told x)) → IfOk (reported told r) Q
+pub if-told : {A : Type 0} (told : A → Report) (r : Result A ClientFault) (P Q : Report → Type 0) → ((report : Report) → P report → Q report) → IfOk r (λ x. P (told x)) → IfOk (reported told r) Q
 if-told told (Ok x) P Q f p = f (told x) p
 if-told told (Err fault) P Q f p = tt
 
@@ -38,7 +38,7 @@ abbrev ended : {A : Type 0} (told : A → Report) (r : Result A ClientFault) (P 
 ended told (Ok x) P p = tt
 ended told (Err fault) P p = p
 
-with-cause : {A : Type 0} (told : A → Report) (r : Result A ClientFault) (cause : ClientFault → Type 0) (known : IfErr r cause) (holds : (fault : ClientFault) → cause fault → Type 0) → WithCause r cause known holds → WithCause (reported told r) cause (ended told r cause known) holds
+pub with-cause : {A : Type 0} (told : A → Report) (r : Result A ClientFault) (cause : ClientFault → Type 0) (known : IfErr r cause) (holds : (fault : ClientFault) → cause fault → Type 0) → WithCause r cause known holds → WithCause (reported told r) cause (ended told r cause known) holds
 with-cause told (Ok x) cause known holds h = tt
 with-cause told (Err fault) cause known holds h = h
 
@@ -65,7 +65,7 @@ module _ (old new : List ℕ → ℕ → List ℕ → List ℕ → Type 0) (same
   }
 
   module _ (options : Options) (since now : WireState) where
-    runs-so : (events : List PoolEvent) (pool : Pooled) → RunsPool new options since now events pool → RunsPool old options since now events pool
+    pub runs-so : (events : List PoolEvent) (pool : Pooled) → RunsPool new options since now events pool → RunsPool old options since now events pool
     runs-so events pool r = record {
       between = r.between;
       travels = travels-allowed old new events (empty_pool options.links options.retries options.budget options.max_body) pool since r.between same r.travels;
