@@ -2,6 +2,7 @@
 use Rattle.std.proofs.Common.{◌≡◌, ℕ, ◌+◌, ◌⊎◌, Bool, true, false, List, [], ◌∷◌, ◌++◌, map, length, take, drop, Option, Some, None, refl, ap, ap₂, sym, subst, ◌∙◌, inl, inr, arith, length-drop, if◌then◌else◌}
 use Rattle.std.specs.Prelude.{codes, bytes_eq, not, nat_lt, nat_le, ◌&&◌}
 use Rattle.std.proofs.lemmas.Bool.{true≢false}
+use Rattle.list_laws.proofs.Bytes.{same_is}
 use Rattle.tpf_base.specs.HttpHeads.{Request, Verdict, Accepted, Rejected, NextRequest, Incomplete, Taken, Refused, next_request, next_at, with_length, judged, judged_head, head_limit, blank_length, head_length, field_lines, taken_whole, names_host, is_target}
 use Rattle.tpf_base.specs.HttpReader.{read_request}
 use Rattle.http_wire.specs.Requests.{Held, asked_of, head_of, holding}
@@ -74,7 +75,7 @@ request_answer history server request last plain =
 -- ---- methods
 
 not_both : (m : List ℕ) → bytes_eq m (codes "GET") ≡ true → bytes_eq m (codes "HEAD") ≡ false
-not_both m get = ap (λ (l : List ℕ). bytes_eq l (codes "HEAD")) (bytes_eq_same m (codes "GET") get)
+not_both m get = ap (λ (l : List ℕ). bytes_eq l (codes "HEAD")) (same_is m (codes "GET") get)
 
 known_head : (get head : Bool) → (get ≡ true → head ≡ false) → is_head (known get head) ≡ head
 known_head true head other = sym (other refl)
