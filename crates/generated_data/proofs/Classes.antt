@@ -1,5 +1,5 @@
 -- The classes of the generated quads.
-use Rattle.std.proofs.Common.{ℕ, Bool, true, false, List, [], ◌∷◌, ◌++◌, ◌==◌, ◌%◌, if◌then◌else◌, refl}
+use Rattle.std.proofs.Common.{ℕ, List, [], ◌∷◌, ◌==◌, ◌%◌, refl}
 use Rattle.std.specs.List.{AllByRecursion, flat_map, range_with_len}
 use Rattle.list_laws.proofs.Each.{all_append, all_if}
 use Rattle.rdf_terms.specs.declared.term.Quad.{Quad}

@@ -1,8 +1,8 @@
 -- The generated data have no blank node, and few triples.
-use Rattle.std.proofs.Common.{◌≡◌, ℕ, zero, suc, ◌+◌, ◌*◌, ◌%◌, ◌<◌, ◌≤◌, ◌==◌, ◌⊎◌, inl, inr, Bool, true, false, List, [], ◌∷◌, ◌++◌, length, map, refl, sym, ap, subst, if◌then◌else◌, ◌∙◌, arith, lit≤, length-append}
+use Rattle.std.proofs.Common.{◌≡◌, ℕ, zero, suc, ◌+◌, ◌*◌, ◌%◌, ◌<◌, ◌≤◌, ◌==◌, ◌⊎◌, inl, inr, Bool, true, false, List, [], ◌∷◌, length, map, ap, subst, if◌then◌else◌, arith, lit≤, length-append}
 use Rattle.std.specs.Bool.{Decides}
 use Rattle.std.specs.Ordering.{eq_by_cmp, is_eq}
-use Rattle.std.specs.List.{Contains, AllByRecursion, filter, flat_map, range_with_len}
+use Rattle.std.specs.List.{Contains, filter, flat_map, range_with_len}
 use Rattle.std.proofs.lemmas.Cmp.{eq_by_cmp_equiv}
 use Rattle.std.proofs.lemmas.List.{length-map}
 use Rattle.std.proofs.lemmas.Map.Keys.{IsDistinct-from_sorted}
@@ -22,8 +22,8 @@ use Rattle.rdf_terms.specs.Triples.{IsIri, IsIriOrLiteral, IsGroundTriple}
 use Rattle.triple_table.specs.declared.choice.Choice.TheVariants.{DefaultGraph}
 use Rattle.triple_table.specs.Chosen.{chosen, is_chosen}
 use Rattle.triple_table.specs.Genid.{skolem_triple}
-use Rattle.triple_table.specs.Served.{terms_in, terms_of, Clashes, IsLeastClash, IsServed}
-use Rattle.triple_table.specs.Stored.{IsRanking, PassesMost}
+use Rattle.triple_table.specs.Served.{terms_in, Clashes, IsLeastClash, IsServed}
+use Rattle.triple_table.specs.Stored.{PassesMost}
 use Rattle.triple_table.proofs.Distinct.{terms_few}
 use Rattle.generated_data.specs.Generated.{names, cities, about, generated, IsGroundQuad}
 use Rattle.generated_data.proofs.Classes.{all_are_ground}

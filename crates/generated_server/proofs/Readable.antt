@@ -1,5 +1,5 @@
 -- The generated quads are as the text of quads can give them.
-use Rattle.std.proofs.Common.{◌≡◌, ℕ, zero, suc, ◌+◌, ◌*◌, ◌%◌, ◌<◌, ◌≤◌, ◌==◌, Bool, true, false, List, [], ◌∷◌, ◌++◌, length, Err, refl, sym, ap, subst, if◌then◌else◌, arith, lit≤, lit<, length-append}
+use Rattle.std.proofs.Common.{◌≡◌, ℕ, zero, suc, ◌+◌, ◌*◌, ◌%◌, ◌<◌, ◌≤◌, ◌==◌, Bool, true, List, [], ◌∷◌, ◌++◌, length, Err, refl, sym, ap, subst, arith, lit≤, lit<, length-append}
 use Rattle.std.specs.Prelude.{◌&&◌, ◌^◌, codes, decimal}
 use Rattle.std.specs.Char.{is_ascii, is_ascii_digit}
 use Rattle.std.specs.List.{list_all, AllByRecursion, flat_map, range_with_len}

@@ -1,18 +1,15 @@
 -- The generated data that are served have short terms, and there are few of them.
-use Rattle.std.proofs.Common.{ℕ, ◌≡◌, ◌+◌, ◌*◌, ◌≤◌, List, length, All, arith, lit≤}
+use Rattle.std.proofs.Common.{◌+◌, ◌≤◌, arith, lit≤}
 use Rattle.std.proofs.lemmas.List.Elements.{All-from_recursion}
 use Rattle.rdf_terms.specs.declared.limits.TheConstants.{LONGEST_TERM}
-use Rattle.rdf_terms.specs.declared.term.Triple.{Triple}
 use Rattle.rdf_terms.specs.declared.term.Quad.{Quad}
 use Rattle.rdf_terms.specs.Sizes.{IsShortTriple}
-use Rattle.tpf_base.specs.Addresses.{IsAuthority}
 use Rattle.nquads_text.proofs.ReadLaws.{short_quads}
 use Rattle.triple_table.specs.declared.choice.Choice.TheVariants.{DefaultGraph}
 use Rattle.triple_table.specs.Chosen.{chosen}
-use Rattle.triple_table.specs.Served.{IsServed}
 use Rattle.triple_table.specs.Short.{AuthoritiesAreShort, ServedAreShort}
 use Rattle.generated_data.specs.Generated.{generated}
-use Rattle.generated_server.specs.Starts.{AreSmall, GeneratedAreSmall}
+use Rattle.generated_server.specs.Starts.{GeneratedAreSmall}
 use Rattle.generated_server.proofs.Few.{chosen_few, served_few}
 use Rattle.generated_server.proofs.Readable.{generated_reads}
 

@@ -1,5 +1,5 @@
 // The server of generated data.
-ghost use Rattle.std.specs.Prelude.{ℕ, ◌≡◌, ◌≤◌, List, All, IfOk};
+ghost use Rattle.std.specs.Prelude.{◌≡◌, ◌≤◌, All, IfOk};
 ghost use Rattle.rdf_terms.specs.Canon.{canon};
 ghost use Rattle.rdf_terms.specs.Triples.{IsRdfQuad};
 ghost use Rattle.tpf_base.specs.Addresses.{IsAuthority, authority_of};

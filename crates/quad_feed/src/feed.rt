@@ -1,13 +1,13 @@
 // A text in pieces.
-ghost use Rattle.std.specs.Prelude.{ℕ, ◌≡◌, ◌<◌, ◌^◌, min, length, ◌++◌, [], List, Bool, true, false, Option, Some, None, Result, Ok, Err, IfOk, OnOk, IfErr, IfSome, if◌then◌else◌};
+ghost use Rattle.std.specs.Prelude.{ℕ, ◌≡◌, ◌<◌, ◌^◌, length, ◌++◌, [], List, Bool, true, false, Option, Some, None, Result, Ok, Err, IfOk, OnOk, IfErr, IfSome, if◌then◌else◌};
 ghost use Rattle.std.specs.List.{list_all};
 ghost use Rattle.rdf_terms.specs.declared.term.Quad.{Quad};
 ghost use Rattle.nquads_text.specs.declared.fault.Why.{Why};
-ghost use Rattle.quad_feed.specs.Feed.{is_inside, last_number, nothing_fed, ReadsWith, FaultWith};
+ghost use Rattle.quad_feed.specs.Feed.{is_inside, nothing_fed, ReadsWith, FaultWith};
 ghost use Rattle.quad_feed.specs.Pieces.{is_cut_end, reading, fed_reading, ReadsEnded};
 ghost use Rattle.nquads_text.specs.Lines.{AddsLine, Gives, line_end, without_lf};
 ghost use Rattle.nquads_text.specs.Line.{line_read};
-ghost use Rattle.nquads_text.specs.Reads.{Reads, FirstFault, RefusedFor, IsOkOrMemory, IsBadOrMemory};
+ghost use Rattle.nquads_text.specs.Reads.{RefusedFor, IsOkOrMemory, IsBadOrMemory};
 
 use nquads_text::{LineFault, TextFault, after_end, line_end, read_line, without_lf};
 use rdf_terms::Quad;
