@@ -9,5 +9,6 @@ pub mod Commanded
 pub mod Among
 pub mod Refused
 pub mod Completed
+pub mod Answered
 pub mod GroupRequests
 pub mod Promised

@@ -40,13 +40,14 @@ use Rattle.tpf_cli.specs.Endings.{EndOfRun, usage, no_words, answered, made, cou
 use Rattle.tpf_cli.specs.Ranges.{IsInRange, IsTyped}
 use Rattle.tpf_cli.specs.Runs.{Around, Writes, WritesNumbers, CountsFile, Does, DoesOf, wire_inside, options_of, view_of, config_by}
 use Rattle.tpf_cli.proofs.Among.{run_among}
+use Rattle.tpf_cli.proofs.Answered.{budget_small, answered_requests}
 use Rattle.tpf_cli.proofs.Statuses.{known_fault}
 use Rattle.tpf_cli.proofs.Tables.{done_table, memory_table, data_table, query_table, client_table, cut_table}
 use Rattle.tpf_cli.proofs.Grouped.{no_plain, file_reads, file_output, server_reads, server_output, generated_reads}
 use Rattle.tpf_cli.proofs.Refused.{run_group_table, run_refusal}
 use Rattle.tpf_cli.proofs.Completed.{wanting_done, numbers_done, run_groups_done}
 use Rattle.tpf_cli.proofs.GroupRequests.{run_group_requests}
-use Rattle.tpf_cli.specs.Promises.{Keeps, KeepsTable, KeepsTableOf, TellsRequests, TellsRequestsOf, IsDone, SucceedsOf}
+use Rattle.tpf_cli.specs.Promises.{Keeps, KeepsTable, KeepsTableOf, TellsOfPlan, TellsRequestsOf, IsDone, SucceedsOf}
 
 -- ---- the table
 
@@ -134,9 +135,6 @@ module _ (a : Around) where
   made_succeeds count (Err sinks.OutOfMemory) h fine = inr refl
 
   -- ---- commands
-
-  budget_small : (n : ℕ) → n ≤ 1000000000000 → n < 2 ^ 63
-  budget_small n h = omega (arith, h)
 
   table_command : (command : Command) → IsInRange command → (end : EndOfRun) → Does a command end → KeepsTableOf a (Some command) (status_of end)
   table_command (local name query_name choice page client seed fail_every) r (answered data_name asked answer) h = file_table (view_of name query_name choice page client seed fail_every) answer (budget_small client.budget r.2.budget) h.3
@@ -248,7 +246,7 @@ module _ (a : Around) where
   -- ---- the requests that are told
 
   told_requests : (view : LocalView) (answer : Result Report AnswerFault) → view.options.budget < 2 ^ 63 → FileAsked a.shelf a.shelf' a.out a.out' (wire_inside a.inside') view answer → (data_name asked : List ℕ) (result : ℕ) (err err' : SinkState) → Says result (answered data_name asked answer) err err'
-      → result ≡ 0 → OfFiles a.shelf.told view (λ triples q. TellsRequests view.fail_every view.options.retries (length (plan_of view.options triples (local_config view.options view.page_size) q)) err err')
+      → result ≡ 0 → TellsOfPlan a view err err'
   told_requests view (Ok report) small (Groups g h) data_name asked result err err' (inl s) zero_status = λ files is triples q serves holds. absurd (no_plain (grammar_of view.options) a.shelf.told view.query g h.is_read files is q holds)
   told_requests view (Ok report) small (Plain h) data_name asked result err err' (inl s) zero_status = λ files is triples q serves holds.
       record { requests = report.requests; rows = report.rows; counts = h.ends small files is triples q serves holds; told = s.1 }
@@ -256,34 +254,8 @@ module _ (a : Around) where
   told_requests view (Err fault) small h data_name asked result err err' (inl s) zero_status = let known = known_fault fault in let is = s.0 in absurd (omega (arith, known.0, is, zero_status))
   told_requests view (Err fault) small h data_name asked result err err' (inr s) zero_status = let eight = s.0 in absurd (omega (arith, eight, zero_status))
 
-  requests_command : (command : Command) → IsInRange command → (end : EndOfRun) (result : ℕ) (err err' : SinkState) → Does a command end → Says result end err err' → TellsRequestsOf a (Some command) result err err'
-  requests_command (local name query_name choice page client seed fail_every) r (answered data_name asked answer) result err err' h s = told_requests (view_of name query_name choice page client seed fail_every) answer (budget_small client.budget r.2.budget) h.3 data_name asked result err err' s
-  requests_command (local name query_name choice page client seed fail_every) r usage result err err' h s = absurd h
-  requests_command (local name query_name choice page client seed fail_every) r no_words result err err' h s = absurd h
-  requests_command (local name query_name choice page client seed fail_every) r (ends.served file service) result err err' h s = absurd h
-  requests_command (local name query_name choice page client seed fail_every) r (made written) result err err' h s = absurd h
-  requests_command (local name query_name choice page client seed fail_every) r (counted asked given) result err err' h s = absurd h
-  requests_command (query url query_name client) r end result err err' h s = tt
-  requests_command (federate several) r end result err err' h s = tt
-  requests_command (serve name base choice page stop_after reload rows) r end result err err' h s = tt
-  requests_command (make count asked) r end result err err' h s = tt
-
-  -- memory ran out over the words
-  no_requests : (command : Command) (end : EndOfRun) (result : ℕ) (err err' : SinkState) → end ≡ no_words → Says result end err err' → TellsRequestsOf a (Some command) result err err'
-  no_requests (local name query_name choice page client seed fail_every) end result err err' e s = λ zero_status. absurd (eight (subst (λ (x : EndOfRun). Says result x err err') e s) zero_status)
-    where
-      eight : Says result no_words err err' → result ≡ 0 → ⊥
-      eight (inl t) z = let is = t.0 in omega (arith, is, z)
-      eight (inr t) z = let is = t.0 in omega (arith, is, z)
-  no_requests (query url query_name client) end result err err' e s = tt
-  no_requests (federate several) end result err err' e s = tt
-  no_requests (serve name base choice page stop_after reload rows) end result err err' e s = tt
-  no_requests (make count asked) end result err err' e s = tt
-
   run_requests : (command : Option Command) → ((c : Command) → command ≡ Some c → IsInRange c) → (end : EndOfRun) (result : ℕ) (err err' : SinkState) → DoesOf a command end → Says result end err err' → TellsRequestsOf a command result err err'
-  run_requests None ranged end result err err' h s = tt
-  run_requests (Some command) ranged end result err err' (inl h) s = requests_command command (ranged command refl) end result err err' h s
-  run_requests (Some command) ranged end result err err' (inr h) s = no_requests command end result err err' h.0 s
+  run_requests command ranged end result err err' h s = answered_requests a (TellsOfPlan a) told_requests command ranged end result err err' h s
 
   -- ---- what is left of shelf and output
 

@@ -139,25 +139,30 @@ pub record TellsRequests (n retries addresses : ℕ) (err err' : SinkState) : Ty
   pub counts : CountsRequests n retries addresses requests
   pub told : Appends err.taken err'.taken (counts_text requests rows) ⊎ (Rose err.faults err'.faults × AppendsPrefix err.taken err'.taken (counts_text requests rows))
 
--- of a query of a file that ended with status 0
+-- This holds of the query of a file that ended with status 0, by what is asked of the file.
+abbrev pub OfAnswered : Option Command → ℕ → (LocalView → Type 0) → Type 0
+OfAnswered None status holds = Unit {0}
+OfAnswered (Some (local name query_name choice page client seed fail_every)) status holds = status ≡ 0 → holds (view_of name query_name choice page client seed fail_every)
+OfAnswered (Some (query url query_name client)) status holds = Unit {0}
+OfAnswered (Some (federate several)) status holds = Unit {0}
+OfAnswered (Some (serve name base choice page stop_after reload rows)) status holds = Unit {0}
+OfAnswered (Some (make count asked)) status holds = Unit {0}
+
+-- what is told of a query without groups, by its plan
+abbrev pub TellsOfPlan : Around → LocalView → SinkState → SinkState → Type 0
+TellsOfPlan a view err err' =
+    OfFiles a.shelf.told view (λ triples q. TellsRequests view.fail_every view.options.retries (length (plan_of view.options triples (local_config view.options view.page_size) q)) err err')
+
 abbrev pub TellsRequestsOf : Around → Option Command → ℕ → SinkState → SinkState → Type 0
-TellsRequestsOf a None status err err' = Unit {0}
-TellsRequestsOf a (Some (local name query_name choice page client seed fail_every)) status err err' =
-    status ≡ 0 → OfFiles a.shelf.told (view_of name query_name choice page client seed fail_every) (λ triples q. TellsRequests fail_every client.retries (length (plan_of (options_of client) triples (local_config (options_of client) page) q)) err err')
-TellsRequestsOf a (Some (query url query_name client)) status err err' = Unit {0}
-TellsRequestsOf a (Some (federate several)) status err err' = Unit {0}
-TellsRequestsOf a (Some (serve name base choice page stop_after reload rows)) status err err' = Unit {0}
-TellsRequestsOf a (Some (make count asked)) status err err' = Unit {0}
+TellsRequestsOf a command status err err' = OfAnswered command status (λ view. TellsOfPlan a view err err')
 
 -- the same of a query with groups, by the plan of all its blocks
+abbrev pub TellsOfGroupPlan : Around → LocalView → SinkState → SinkState → Type 0
+TellsOfGroupPlan a view err err' =
+    OfGroupFiles a.shelf.told view (λ triples g. TellsRequests view.fail_every view.options.retries (length (group_plan_of triples (local_config view.options view.page_size) g)) err err')
+
 abbrev pub TellsGroupRequestsOf : Around → Option Command → ℕ → SinkState → SinkState → Type 0
-TellsGroupRequestsOf a None status err err' = Unit {0}
-TellsGroupRequestsOf a (Some (local name query_name choice page client seed fail_every)) status err err' =
-    status ≡ 0 → OfGroupFiles a.shelf.told (view_of name query_name choice page client seed fail_every) (λ triples g. TellsRequests fail_every client.retries (length (group_plan_of triples (local_config (options_of client) page) g)) err err')
-TellsGroupRequestsOf a (Some (query url query_name client)) status err err' = Unit {0}
-TellsGroupRequestsOf a (Some (federate several)) status err err' = Unit {0}
-TellsGroupRequestsOf a (Some (serve name base choice page stop_after reload rows)) status err err' = Unit {0}
-TellsGroupRequestsOf a (Some (make count asked)) status err err' = Unit {0}
+TellsGroupRequestsOf a command status err err' = OfAnswered command status (λ view. TellsOfGroupPlan a view err err')
 
 -- ---- completeness
 
