@@ -10,13 +10,13 @@ returns-in-empty c = λ quads topic m.
     let l = c.in-empty.len_below in
     none_of (IsNextObject quads topic) c.args.objects.now (omega (arith, l)) m
 
-pub returns-in-len1 : goal.returns-in-len1
-returns-in-len1 c = λ quads topic m.
+pub returns-in_ok-next-in-len1 : goal.returns-in_ok-next-in-len1
+returns-in_ok-next-in-len1 c = λ quads topic m.
     let l = c.in-len1.len_at_least in let h = c.in-len1.len_below in
     (c.only-item.result.now.object, only_item (IsNextObject quads topic) c.args.objects.now c.only-item.result (omega (arith, l, h)) c.only-item.is m, c.in_ok-next.ensures.0, c.in_ok-next.ensures.1)
 
-pub returns-in_err-next : goal.returns-in_err-next
-returns-in_err-next c = λ quads topic m.
+pub returns-in_err-next-in-len1 : goal.returns-in_err-next-in-len1
+returns-in_err-next-in-len1 c = λ quads topic m.
     let l = c.in-len1.len_at_least in let h = c.in-len1.len_below in
     let p = err_from_is_err_and c.from_residual.result c.from_residual.ensures.1 in
     rw (p.1, p.2)
