@@ -13,7 +13,7 @@ returns-in-empty c = λ quads topic m.
 pub returns-in_ok-next-in-len1 : goal.returns-in_ok-next-in-len1
 returns-in_ok-next-in-len1 c = λ quads topic m.
     let l = c.in-len1.len_at_least in let h = c.in-len1.len_below in
-    (c.only-item.result.now.object, only_item (IsNextObject quads topic) c.args.objects.now c.only-item.result (omega (arith, l, h)) c.only-item.is m, c.in_ok-next.ensures.0, c.in_ok-next.ensures.1)
+    (c.only-item.result.now.object, only_item (IsNextObject quads topic) c.args.objects.now c.only-item.result (omega (arith, l, h)) c.only-item.is m, c.in_ok-next-in-len1.ensures.0, c.in_ok-next-in-len1.ensures.1)
 
 pub returns-in_err-next-in-len1 : goal.returns-in_err-next-in-len1
 returns-in_err-next-in-len1 c = λ quads topic m.
@@ -21,7 +21,7 @@ returns-in_err-next-in-len1 c = λ quads topic m.
     let p = err_from_is_err_and c.from_residual.result c.from_residual.ensures.1 in
     rw (p.1, p.2)
     (next_fault quads topic (authority_of c.args.address.now) c.only-item.result.now.object _
-    (only_item (IsNextObject quads topic) c.args.objects.now c.only-item.result (omega (arith, l, h)) c.only-item.is m) c.in_err-next.ensures)
+    (only_item (IsNextObject quads topic) c.args.objects.now c.only-item.result (omega (arith, l, h)) c.only-item.is m) c.in_err-next-in-len1.ensures)
 
 pub returns-in_default : goal.returns-in_default
 returns-in_default c = λ quads topic m.
