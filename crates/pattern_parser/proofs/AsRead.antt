@@ -5,8 +5,7 @@ use Rattle.query_grammar.specs.Grammar.{IsQuery}
 use Rattle.query_words.specs.declared.word.Word.{Word}
 use Rattle.query_words.specs.Words.{kinds_of}
 use Rattle.pattern_parser.specs.declared.item.Item.{Item}
-use Rattle.pattern_parser.specs.declared.triple.Placed.{Placed}
-use Rattle.pattern_parser.specs.Triples.{triples_after}
+use Rattle.pattern_parser.specs.Triples.{Placed, triples_after}
 use Rattle.pattern_parser.specs.Productions.{Body}
 use Rattle.pattern_parser.specs.Queries.{body, block}
 use Rattle.pattern_parser.proofs.Produced.{body_read}

@@ -15,11 +15,10 @@ use Rattle.query_words.specs.declared.word.Word.{Word}
 use Rattle.query_words.specs.Words.{kind_of}
 use Rattle.pattern_parser.specs.declared.item.Item.{Item}
 use Rattle.pattern_parser.specs.declared.item.Item.TheVariants as items
-use Rattle.pattern_parser.specs.declared.triple.Placed.{Placed}
 use Rattle.pattern_parser.specs.Names.{anonymous, number, name_text, with_name}
 use Rattle.pattern_parser.specs.Prefixes.{iri_text}
 use Rattle.pattern_parser.specs.Items.{rdf_type, xsd_integer, xsd_decimal, xsd_double, xsd_boolean, iri_term, typed_term, string_term, part_of, more_of, more_after, more, item_of, items_after}
-use Rattle.pattern_parser.specs.Triples.{placed}
+use Rattle.pattern_parser.specs.Triples.{Placed, placed}
 use Rattle.pattern_parser.specs.Productions.{Objects, VerbObjects, MaybeVerbObjects, Each, after_marks, triples_of, Same, Block, Body}
 use Rattle.pattern_parser.proofs.Splits.{Is, Are, flat, seq_split, none, many_split, one, marked, leaf, iri_leaf}
 

@@ -12,6 +12,7 @@ use Rattle.rdf_terms.specs.Datatype.{is_lang_string}
 use Rattle.rdf_terms.specs.Tag.{is_tag, lower}
 use Rattle.bgp_core.specs.declared.pattern.Part.{Part}
 use Rattle.bgp_core.specs.declared.pattern.Part.TheVariants as parts
+use Rattle.bgp_core.specs.declared.pattern.Pattern.{Pattern}
 use Rattle.rdf_terms.specs.Valid.{IsNotBlank}
 use Rattle.bgp_core.specs.Queries.{IsPartOf, IsPatternOf}
 use Rattle.query_words.specs.declared.word.Value.{Value}
@@ -19,11 +20,10 @@ use Rattle.query_words.specs.declared.word.Value.TheVariants as values
 use Rattle.query_words.specs.declared.word.Word.{Word}
 use Rattle.pattern_parser.specs.declared.item.Item.{Item}
 use Rattle.pattern_parser.specs.declared.item.Item.TheVariants as items
-use Rattle.pattern_parser.specs.declared.triple.Placed.{Placed}
 use Rattle.pattern_parser.specs.Names.{anonymous, place_of, number, with_text, with_name, name_text, is_blank_name, variable_numbers}
 use Rattle.pattern_parser.specs.Prefixes.{iri_text}
 use Rattle.pattern_parser.specs.Items.{rdf_type, xsd_integer, xsd_decimal, xsd_double, xsd_boolean, iri_term, typed_term, tagged_term, datatype_term, string_before, string_term, term_of, name_or_term, part_of, more, mark_of, item_of, items_after, names_after, IsItemOf}
-use Rattle.pattern_parser.specs.Triples.{triples_after}
+use Rattle.pattern_parser.specs.Triples.{block_patterns, triples_after}
 
 -- ---- terms
 
@@ -201,10 +201,10 @@ chosen_fit count false ts us h k = numbers_fit 0 count us (omega arith)
 
 -- ---- at the names and the numbers of a query
 
-pub patterns_fit_at : (iri : List ℕ → Option (List ℕ)) (names all : List (List ℕ)) (ws : List Word) (ts : List Placed) → all ≡ names_after names 0 ws → ts ≡ triples_after None None (items_after iri names 0 ws) → AllByRecursion (IsPatternOf (length all)) (map (λ p. p.pattern) ts)
-patterns_fit_at iri names all ws ts e f =
-    subst (λ (l : List (List ℕ)). AllByRecursion (IsPatternOf (length l)) (map (λ p. p.pattern) ts)) (sym e)
-    (subst (λ (l : List Placed). AllByRecursion (IsPatternOf (length (names_after names 0 ws))) (map (λ p. p.pattern) l)) (sym f) (patterns_fit iri names ws))
+pub patterns_fit_at : (iri : List ℕ → Option (List ℕ)) (names all : List (List ℕ)) (ws : List Word) (ps : List Pattern) → all ≡ names_after names 0 ws → ps ≡ block_patterns iri names ws → AllByRecursion (IsPatternOf (length all)) ps
+patterns_fit_at iri names all ws ps e f =
+    subst (λ (l : List (List ℕ)). AllByRecursion (IsPatternOf (length l)) ps) (sym e)
+    (subst (λ (l : List Pattern). AllByRecursion (IsPatternOf (length (names_after names 0 ws))) l) (sym f) (patterns_fit iri names ws))
 
 pub names_grow_at : (names all : List (List ℕ)) (ws : List Word) → all ≡ names_after names 0 ws → length names ≤ length all
 names_grow_at names all ws e = let g = names_grow names 0 ws in let s = ap length e in omega (arith, g, s)

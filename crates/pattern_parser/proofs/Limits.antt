@@ -13,14 +13,13 @@ use Rattle.pattern_parser.specs.declared.limit.Next.{Next}
 use Rattle.pattern_parser.specs.declared.limit.Next.TheVariants.{Subject, Verb, Object}
 use Rattle.pattern_parser.specs.declared.limit.Role.{Role}
 use Rattle.pattern_parser.specs.declared.limit.Role.TheVariants as roles
-use Rattle.pattern_parser.specs.declared.triple.Placed.{Placed}
 use Rattle.pattern_parser.specs.Names.{with_name, name_text}
 use Rattle.pattern_parser.specs.Items.{items_after, item_of, part_of, more}
 use Rattle.pattern_parser.specs.Limits.{role_of, next_after, is_object, count_after, Counts}
 use Rattle.pattern_parser.specs.declared.limit.PatternCount.{PatternCount}
 use Rattle.pattern_parser.specs.declared.limit.PatternCount.TheVariants.{Over, Left}
 use Rattle.pattern_parser.specs.Queries.{excess}
-use Rattle.pattern_parser.specs.Triples.{placed, triples_after}
+use Rattle.pattern_parser.specs.Triples.{Placed, placed, triples_after}
 
 -- which part comes next, where this subject and this verb hold
 abbrev next_of : Option Part → Option Part → Next

@@ -4,8 +4,7 @@ use Rattle.std.proofs.lemmas.List.{append-nil}
 use Rattle.bgp_core.specs.declared.pattern.Part.{Part}
 use Rattle.pattern_parser.specs.declared.item.Item.{Item}
 use Rattle.pattern_parser.specs.declared.item.Item.TheVariants as items
-use Rattle.pattern_parser.specs.declared.triple.Placed.{Placed}
-use Rattle.pattern_parser.specs.Triples.{placed, triples_after}
+use Rattle.pattern_parser.specs.Triples.{Placed, placed, triples_after}
 use Rattle.pattern_parser.specs.Productions.{Objects, VerbObjects, MaybeVerbObjects, Each, after_marks, triples_of, Same, Block, Body}
 
 objects_read : (s v : Part) (is rest : List Item) (ts : List Placed) → Objects s v is ts → triples_after (Some s) (Some v) (is ++ rest) ≡ ts ++ triples_after (Some s) (Some v) rest

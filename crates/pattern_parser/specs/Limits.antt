@@ -9,8 +9,8 @@ use Rattle.pattern_parser.specs.declared.limit.Role.{Role}
 use Rattle.pattern_parser.specs.declared.limit.Role.TheVariants.{Part, Dot, Semicolon, Other}
 use Rattle.pattern_parser.specs.declared.limit.PatternCount.{PatternCount}
 use Rattle.pattern_parser.specs.declared.limit.PatternCount.TheVariants.{Over, Left}
-use Rattle.pattern_parser.specs.declared.triple.Placed.{Placed}
 use Rattle.pattern_parser.specs.Items.{more}
+use Rattle.pattern_parser.specs.Triples.{Placed}
 
 -- what a token is in a block
 abbrev pub role_of : Value → Role

@@ -3,8 +3,7 @@ use Rattle.std.specs.Prelude.{ℕ, ◌≡◌, ◌⊎◌, Bool, None, List, [], �
 use Rattle.bgp_core.specs.declared.pattern.Part.{Part}
 use Rattle.pattern_parser.specs.declared.item.Item.{Item}
 use Rattle.pattern_parser.specs.declared.item.Item.TheVariants as items
-use Rattle.pattern_parser.specs.declared.triple.Placed.{Placed}
-use Rattle.pattern_parser.specs.Triples.{placed, triples_after}
+use Rattle.pattern_parser.specs.Triples.{Placed, placed, triples_after}
 
 -- [79] ObjectList: object { "," object }
 abbrev pub Objects : Part → Part → List Item → List Placed → Type 0

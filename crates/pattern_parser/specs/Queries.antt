@@ -13,11 +13,10 @@ use Rattle.query_words.specs.Words.{words_of, kinds_of}
 use Rattle.pattern_parser.specs.declared.fault.QueryWhy.{QueryWhy}
 use Rattle.pattern_parser.specs.declared.fault.QueryWhy.TheVariants as why
 use Rattle.pattern_parser.specs.declared.limit.TheConstants.{MOST_PATTERNS}
-use Rattle.pattern_parser.specs.declared.triple.Placed.{Placed}
 use Rattle.pattern_parser.specs.Prefixes.{iri_of, is_unknown, is_relative, first_at, lang_at, before}
 use Rattle.pattern_parser.specs.Names.{variable_numbers}
 use Rattle.pattern_parser.specs.Items.{names_after}
-use Rattle.pattern_parser.specs.Triples.{block_triples}
+use Rattle.pattern_parser.specs.Triples.{Placed, block_triples}
 
 -- SELECT
 abbrev pub is_select : Value → Bool

@@ -1,13 +1,18 @@
 -- The triple patterns of what stands between the braces.
-use Rattle.std.specs.Prelude.{ℕ, List, [], ◌∷◌, Option, Some, None}
+use Rattle.std.specs.Prelude.{ℕ, List, [], ◌∷◌, map, Option, Some, None}
 use Rattle.bgp_core.specs.declared.pattern.Part.{Part}
+use Rattle.bgp_core.specs.declared.pattern.Pattern.{Pattern}
+use Rattle.query_words.specs.declared.word.Word.{Word}
 use Rattle.pattern_parser.specs.declared.item.Item.{Item}
 use Rattle.pattern_parser.specs.declared.item.Item.TheVariants as items
-use Rattle.pattern_parser.specs.declared.triple.Placed.{Placed}
-use Rattle.query_words.specs.declared.word.Word.{Word}
 use Rattle.pattern_parser.specs.Items.{items_after}
 
 -- a pattern with the place of its object
+pub record Placed : Type 0 where
+  pub pattern : Pattern
+  pub at : ℕ
+
+-- the pattern of these parts, with the place of its object
 abbrev pub placed : Part → Part → Part → ℕ → Placed
 placed s v o at = record { pattern = record { subject = s; predicate = v; object = o }; at = at }
 
@@ -21,6 +26,10 @@ triples_after s v (items.Dot ∷ is) = triples_after None None is
 triples_after s v (items.Semicolon ∷ is) = triples_after s None is
 triples_after s v (items.Comma ∷ is) = triples_after s v is
 
--- the patterns of a block's tokens, behind names
+-- the patterns of a block's tokens, behind names, each with the place of its object
 abbrev pub block_triples : (List ℕ → Option (List ℕ)) → List (List ℕ) → List Word → List Placed
 block_triples iri names ws = triples_after None None (items_after iri names 0 ws)
+
+-- the same without the places
+abbrev pub block_patterns : (List ℕ → Option (List ℕ)) → List (List ℕ) → List Word → List Pattern
+block_patterns iri names ws = map (λ p. p.pattern) (block_triples iri names ws)

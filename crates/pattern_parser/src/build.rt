@@ -1,15 +1,12 @@
 // A query from its tokens.
-ghost use Rattle.std.specs.Prelude.{if◌then◌else◌, ◌≡◌, ◌<◌, ◌≤◌, ◌+◌, ◌-◌, ◌^◌, ℕ, List, [], length, map, OnOk, IfOk, IsErrOf, Some, None};
-ghost use Rattle.std.specs.List.{AllByRecursion};
-ghost use Rattle.bgp_core.specs.Queries.{IsPatternOf};
+ghost use Rattle.std.specs.Prelude.{if◌then◌else◌, ◌≡◌, ◌<◌, ◌≤◌, ◌+◌, ◌-◌, ◌^◌, ℕ, length, OnOk, IfOk, IsErrOf, Some, None};
 ghost use Rattle.query_tokens.specs.declared.piece.TheConstants.{LONGEST_QUERY};
 ghost use Rattle.pattern_parser.specs.declared.fault.QueryWhy.{QueryWhy};
-ghost use Rattle.pattern_parser.specs.declared.triple.Placed.{Placed};
 ghost use Rattle.pattern_parser.specs.Names.{variable_numbers};
 ghost use Rattle.pattern_parser.specs.Numbers.{AreNumbered};
 ghost use Rattle.pattern_parser.specs.Prefixes.{iris};
 ghost use Rattle.pattern_parser.specs.Items.{names_after};
-ghost use Rattle.pattern_parser.specs.Triples.{block_triples};
+ghost use Rattle.pattern_parser.specs.Triples.{block_patterns};
 ghost use Rattle.pattern_parser.specs.Queries.{triples_of, query_of, excess, term_fault};
 
 use crate::fault::{QueryFault, QueryWhy};
@@ -18,7 +15,7 @@ use crate::limit::excess_in;
 use crate::names::Names;
 use crate::prefixes::{Prefixes, first_lang, first_relative, first_unknown};
 use crate::select::{before_brace, has_star, variable_numbers};
-use crate::triple::{Placed, triples};
+use crate::triple::patterns;
 use bgp_core::{Pattern, Query};
 use query_words::word::Word;
 use std::alloc::Global;
@@ -64,35 +61,6 @@ pub fn listed(alloc: Global, names: &mut Names, words: &[Word]) -> Result<Vec<u3
     variable_numbers(alloc, names.texts.as_slice())
 }
 
-/// The triple patterns of some tokens, whose names join those given.
-fn triples_in(
-    alloc: Global,
-    prefixes: &Prefixes,
-    names: &mut Names,
-    words: &[Word],
-) -> Result<Vec<Placed>, OutOfMemory>
-    requires numbered { AreNumbered names.old }
-    requires few { length names.old.texts.items + length words.now < 2 ^ 32 - 1 }
-    ensures triples { IfOk result (λ v. v.items ≡ block_triples (iris prefixes.now) names.old.texts.items words.now) }
-    ensures names { OnOk result (names.new.texts.items ≡ names_after names.old.texts.items 0 words.now) }
-    ensures numbered { OnOk result (AreNumbered names.new) }
-    ensures few { OnOk result (length names.new.texts.items ≤ length names.old.texts.items + length words.now) }
-{
-    let items = items_of(alloc, prefixes, names, words)?;
-    triples(alloc, items)
-}
-
-/// The patterns, each without the place of its object.
-fn patterns(alloc: Global, triples: Vec<Placed>) -> Result<Vec<Pattern>, OutOfMemory>
-    ensures { IfOk result (λ v. v.items ≡ map (λ p. p.pattern) triples.items) }
-{
-    let mut patterns = Vec::new(alloc);
-    for triple in triples {
-        patterns.push(triple.pattern)?;
-    }
-    Ok(patterns)
-}
-
 /// The patterns of a block of tokens, whose names join those given. `OutOfMemory` comes only where memory
 /// runs out.
 pub fn block_patterns(
@@ -104,13 +72,13 @@ pub fn block_patterns(
     requires numbered { AreNumbered names.old }
     requires few { length names.old.texts.items + length words.now < 2 ^ 32 - 1 }
     ensures patterns { IfOk result (λ v. v.items
-        ≡ map (λ p. p.pattern) (block_triples (iris prefixes.now) names.old.texts.items words.now)) }
+        ≡ block_patterns (iris prefixes.now) names.old.texts.items words.now) }
     ensures names { OnOk result (names.new.texts.items ≡ names_after names.old.texts.items 0 words.now) }
     ensures numbered { OnOk result (AreNumbered names.new) }
     ensures few { OnOk result (length names.new.texts.items ≤ length names.old.texts.items + length words.now) }
 {
-    let triples = triples_in(alloc, prefixes, names, words)?;
-    patterns(alloc, triples)
+    let items = items_of(alloc, prefixes, names, words)?;
+    patterns(alloc, items)
 }
 
 /// The selected numbers: those of all names where `*` stands, or else those listed.
@@ -130,25 +98,6 @@ pub fn chosen(
     }
 }
 
-/// The query of some patterns, names and selected numbers.
-fn finish(
-    alloc: Global,
-    triples: Vec<Placed>,
-    texts: Vec<Text>,
-    selected: Vec<u32>,
-) -> Result<Query, OutOfMemory>
-    requires patterns { AllByRecursion (IsPatternOf (length texts.items)) (map (λ p. p.pattern) triples.items) }
-    requires selected { AllByRecursion (λ n. n < length texts.items) selected.items }
-    ensures { IfOk result (λ q. q ≡ record {
-      patterns = map (λ p. p.pattern) triples.items;
-      names = texts.items;
-      selected = selected.items;
-    }) }
-{
-    let patterns = patterns(alloc, triples)?;
-    Ok(Query::new(patterns, texts, selected))
-}
-
 /// The query that the tokens from SELECT on are, or its excess of patterns.
 pub fn build(alloc: Global, prefixes: &Prefixes, body: &[Word]) -> Result<Query, QueryFault>
     requires { length body.now ≤ LONGEST_QUERY }
@@ -166,8 +115,8 @@ pub fn build(alloc: Global, prefixes: &Prefixes, body: &[Word]) -> Result<Query,
     }
     let mut names = Names::new(alloc);
     let numbers = listed(alloc, &mut names, select)?;
-    let triples = triples_in(alloc, prefixes, &mut names, block)?;
+    let patterns = block_patterns(alloc, prefixes, &mut names, block)?;
     let Names { texts, places: _ } = names;
     let selected = chosen(alloc, has_star(select), numbers, texts.as_slice())?;
-    Ok(finish(alloc, triples, texts, selected)?)
+    Ok(Query::new(patterns, texts, selected))
 }
