@@ -4,7 +4,7 @@ use Rattle.std.specs.Prelude.{IfSome, IfNone}
 use Rattle.std.proofs.lemmas.List.{drop_more, drop_all}
 use Rattle.std.proofs.lemmas.List.Edits.{between_more}
 use Rattle.query_words.specs.declared.word.Word.{Word}
-use Rattle.pattern_parser.specs.declared.triple.Placed.{Placed}
+use Rattle.pattern_parser.specs.Triples.{Placed}
 use Rattle.pattern_parser.specs.declared.limit.PatternCount.{PatternCount}
 use Rattle.pattern_parser.specs.declared.limit.PatternCount.TheVariants.{Over, Left}
 use Rattle.pattern_parser.specs.Limits.{Counts}
