@@ -14,7 +14,7 @@ use Rattle.query_grammar.specs.Grammar as grammar
 use Rattle.query_grammar.specs.Grammar.{a}
 use Rattle.query_grammar.specs.Groups.{part, inside, group_of}
 use Rattle.pattern_parser.specs.declared.item.Item.{Item}
-use Rattle.pattern_parser.specs.declared.triple.Placed.{Placed}
+use Rattle.pattern_parser.specs.Triples.{Placed}
 use Rattle.pattern_parser.specs.Items.{items_after, names_after}
 use Rattle.pattern_parser.specs.Productions as productions
 use Rattle.pattern_parser.proofs.Splits.{Is, Are, flat, seq_split, none, many_split, one, marked}

@@ -21,7 +21,7 @@ use Rattle.query_words.proofs.Values.{open_value, close_value}
 use Rattle.pattern_parser.specs.declared.fault.QueryWhy.{QueryWhy}
 use Rattle.pattern_parser.specs.declared.fault.QueryWhy.TheVariants as why
 use Rattle.pattern_parser.specs.declared.item.Item.{Item}
-use Rattle.pattern_parser.specs.declared.triple.Placed.{Placed}
+use Rattle.pattern_parser.specs.Triples.{Placed}
 use Rattle.pattern_parser.specs.Names.{name_text, with_name, variable_numbers}
 use Rattle.pattern_parser.specs.Items.{string_before, string_term, part_of, more_of, more_after, more, item_of, items_after, names_after}
 use Rattle.pattern_parser.specs.Triples.{triples_after}

@@ -7,7 +7,7 @@ use Rattle.bgp_core.specs.declared.pattern.Pattern.{Pattern}
 use Rattle.query_words.specs.declared.word.Value.TheVariants as values
 use Rattle.query_words.specs.declared.word.Word.{Word}
 use Rattle.query_words.specs.Words.{kinds_of}
-use Rattle.pattern_parser.specs.declared.triple.Placed.{Placed}
+use Rattle.pattern_parser.specs.Triples.{Placed}
 use Rattle.pattern_parser.specs.Items.{items_after, names_after}
 use Rattle.pattern_parser.specs.Productions as productions
 use Rattle.group_query.specs.Trees.{Tree, block, empty, join, optional, union}
