@@ -4,12 +4,11 @@ use Rattle.std.specs.Prelude.{IfSome, IfNone}
 use Rattle.std.proofs.lemmas.List.{drop_more, drop_all}
 use Rattle.std.proofs.lemmas.List.Edits.{between_more}
 use Rattle.query_words.specs.declared.word.Word.{Word}
-use Rattle.pattern_parser.specs.Triples.{Placed}
 use Rattle.pattern_parser.specs.declared.limit.PatternCount.{PatternCount}
 use Rattle.pattern_parser.specs.declared.limit.PatternCount.TheVariants.{Over, Left}
 use Rattle.pattern_parser.specs.Limits.{Counts}
 use Rattle.pattern_parser.specs.Items.{items_after, names_after}
-use Rattle.pattern_parser.specs.Triples.{triples_after}
+use Rattle.pattern_parser.specs.Triples.{Placed, triples_after}
 use Rattle.group_faults.specs.Signs.{sign_of, is_other, runs_after}
 use Rattle.group_faults.specs.Faults.{triples_in, place_at}
 use Rattle.group_faults.specs.Walks.{runs_from}

@@ -10,9 +10,8 @@ use Rattle.pattern_parser.specs.declared.fault.QueryFault.{QueryFault}
 use Rattle.pattern_parser.specs.declared.fault.QueryFault.TheVariants as queries
 use Rattle.pattern_parser.specs.declared.fault.QueryWhy.{QueryWhy}
 use Rattle.pattern_parser.specs.declared.fault.QueryWhy.TheVariants as why
-use Rattle.pattern_parser.specs.Triples.{Placed}
 use Rattle.pattern_parser.specs.Items.{items_after, names_after}
-use Rattle.pattern_parser.specs.Triples.{triples_after}
+use Rattle.pattern_parser.specs.Triples.{Placed, triples_after}
 use Rattle.pattern_parser.specs.Queries.{prefixes, body, block, select_names, excess, term_fault, place_or, ReadsTokens, FaultAt}
 use Rattle.group_faults.specs.declared.fault.GroupFault.{GroupFault}
 use Rattle.group_faults.specs.declared.fault.GroupFault.TheVariants as faults

@@ -5,9 +5,8 @@ use Rattle.std.proofs.lemmas.List.{append-nil}
 use Rattle.bgp_core.specs.declared.pattern.Pattern.{Pattern}
 use Rattle.bgp_core.specs.Queries.{IsPatternOf}
 use Rattle.query_words.specs.declared.word.Word.{Word}
-use Rattle.pattern_parser.specs.Triples.{Placed}
 use Rattle.pattern_parser.specs.Items.{items_after, names_after}
-use Rattle.pattern_parser.specs.Triples.{triples_after}
+use Rattle.pattern_parser.specs.Triples.{Placed, triples_after}
 use Rattle.pattern_parser.proofs.Fits.{part_grows, patterns_fit, names_grow}
 use Rattle.group_query.specs.Trees.{Tree, block, empty, join, optional, union, blocks_of, TreeFits}
 use Rattle.group_parser.specs.Groups.{Element, Triples, Groups, Optional, joined, united, translated, Reading, IsBlock, AreUnions, AreElements, IsBraced, IsGroup}

@@ -21,10 +21,9 @@ use Rattle.query_words.proofs.Values.{open_value, close_value}
 use Rattle.pattern_parser.specs.declared.fault.QueryWhy.{QueryWhy}
 use Rattle.pattern_parser.specs.declared.fault.QueryWhy.TheVariants as why
 use Rattle.pattern_parser.specs.declared.item.Item.{Item}
-use Rattle.pattern_parser.specs.Triples.{Placed}
 use Rattle.pattern_parser.specs.Names.{name_text, with_name, variable_numbers}
 use Rattle.pattern_parser.specs.Items.{string_before, string_term, part_of, more_of, more_after, more, item_of, items_after, names_after}
-use Rattle.pattern_parser.specs.Triples.{triples_after}
+use Rattle.pattern_parser.specs.Triples.{Placed, triples_after}
 use Rattle.pattern_parser.specs.Prefixes.{before}
 use Rattle.pattern_parser.specs.Queries.{is_select, is_brace, prefixes, body, block, select_part, select_names, has_star, names_of, triples_of, query_of, excess, fault_or, first_of, term_fault, later_fault, place_or, Reads, ReadsTokens, ReadsQuery, IsGrammarAt, IsLaterAt, FaultAt, IsTokenFaultAt}
 use Rattle.pattern_parser.proofs.Shorts.{as_tokens}

@@ -16,10 +16,9 @@ use Rattle.std.specs.Prelude.{not}
 use Rattle.std.proofs.lemmas.Bool.{and_parts}
 use Rattle.pattern_parser.specs.declared.item.Item.{Item}
 use Rattle.pattern_parser.specs.declared.item.Item.TheVariants as items
-use Rattle.pattern_parser.specs.Triples.{Placed}
 use Rattle.pattern_parser.specs.Names.{name_text, with_name}
 use Rattle.pattern_parser.specs.Items.{items_after, names_after, more}
-use Rattle.pattern_parser.specs.Triples.{placed, triples_after}
+use Rattle.pattern_parser.specs.Triples.{Placed, placed, triples_after}
 use Rattle.pattern_parser.specs.Productions as productions
 use Rattle.pattern_parser.proofs.Splits.{Is, only_all}
 use Rattle.pattern_parser.proofs.Blocks.{It, mark_read}
