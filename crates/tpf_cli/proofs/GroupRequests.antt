@@ -1,5 +1,5 @@
 -- The requests that are told of a query with groups.
-use Rattle.std.proofs.Common.{ℕ, ◌≡◌, ◌<◌, ◌≤◌, ◌^◌, inl, inr, List, length, codes, Option, Some, None, Result, Ok, Err, refl, subst, arith}
+use Rattle.std.proofs.Common.{ℕ, ◌≡◌, ◌<◌, ◌^◌, inl, inr, List, length, codes, Option, Some, Result, Ok, Err, arith}
 use Rattle.rdf_terms.specs.declared.term.Triple.{Triple}
 use Rattle.tpf_base.specs.Wrote.{SinkState}
 use Rattle.template_fill.specs.Metadata.{Config}
