@@ -30,11 +30,19 @@ fn read_quads(alloc: Global, body: &[u8]) -> Result<Vec<Quad>, PageFault>
 fn read_any(alloc: Global, body: &[u8], address: &WebAddress) -> Result<Page, PageFault>
     ensures { Answers (Takes body.now address.now) (Faults body.now address.now) result }
 {
-    let quads = read_quads(alloc, body)?;
-    let parts = read_controls(alloc, quads.as_slice(), address)?;
+    let quads = match read_quads(alloc, body) {
+        Ok(quads) => quads,
+        Err(fault) => return Err(fault),
+    };
+    let parts = match read_controls(alloc, quads.as_slice(), address) {
+        Ok(parts) => parts,
+        Err(fault) => return Err(fault),
+    };
     let PageControls { told, marks } = parts;
-    let triples = take_triples(alloc, quads, marks)?;
-    let triples = TripleList::from_vec(triples);
+    let triples = match take_triples(alloc, quads, marks) {
+        Ok(triples) => TripleList::from_vec(triples),
+        Err(fault) => return Err(fault),
+    };
     let Told {
         count,
         form,
