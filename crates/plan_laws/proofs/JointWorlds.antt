@@ -20,7 +20,7 @@ use Rattle.rdf_terms.specs.Same.{triple_eq}
 use Rattle.rdf_terms.specs.Selections.{Selection, all_of}
 use Rattle.rdf_terms.specs.Slots.{matches}
 use Rattle.rdf_terms.specs.Valid.{IsValidTriple}
-use Rattle.rdf_terms.proofs.Selected.{sorted_is, ascends}
+use Rattle.rdf_terms.proofs.Selected.{sorted_is, ascends, no_slots}
 use Rattle.rdf_terms.proofs.Equality.{eq_same}
 use Rattle.bgp_core.specs.Solutions.{distinct_after}
 use Rattle.join_core.specs.Worlds.{World, IsWorld, numbers, items_after}
@@ -341,7 +341,7 @@ several-is-world worlds are some = record {
       let r = from-joint worlds are s t m in
       let stands = Contains-permutation (filter (λ u. matches s.slots u && r.0.keeps s.rows u) r.0.triples) (items_after r.0 s 0) t ((All-contains IsWorld worlds r.0 are r.1).fragments s) r.2 in
       none_in t (subst (λ (l : List Triple). Contains l t) ((All-contains IsWorld worlds r.0 are r.1).unasked s e) stands));
-  valid = all-valid worlds are (union (map (λ w. w.triples) worlds)) (λ t m. from-union worlds are (all_of no-slots) t m);
+  valid = all-valid worlds are (union (map (λ w. w.triples) worlds)) (λ t m. from-union worlds are (all_of no_slots) t m);
 }
 
 pub joint-is-world : WorldsAreJoined
