@@ -64,7 +64,7 @@ port_read bytes p h = go (opened 58 bytes) refl h
     go (Some text) e h =
         let digits = take_while is_ascii_digit text in
         let w = when_some (is_port_text digits) (digits_value 10 digits, drop (length digits) text) p h in
-        subst (HasPort bytes) w.1 (record { high = (above_first digits w.0).2; rest = omega (arith, opened_length 58 bytes text e, length-drop (length digits) text) })
+        subst (HasPort bytes) w.1 (record { high = (let fits = (above_first digits w.0).2 in omega (arith, fits)); rest = omega (arith, opened_length 58 bytes text e, length-drop (length digits) text) })
 
 abbrev spelled_with : List ℕ → ℕ → List ℕ → Spelled
 spelled_with host port rest = record { host = host; port = port; rest = rest }
