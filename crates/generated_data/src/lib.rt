@@ -10,8 +10,10 @@
 #![tactic(auto)]
 
 mod laws;
+mod limits;
 mod lines;
 mod write;
 
 pub use laws::generated_quads_are_rdf;
+pub use limits::MOST_PERSONS;
 pub use write::write_generated;

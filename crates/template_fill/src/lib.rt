@@ -38,7 +38,7 @@ pub use laws::{
     explicit_forms_read_back, first_page_is_expansion, pages_are_answered, pages_share_authority,
     rows_read_back, versions_are_numbered, versions_are_valid,
 };
-pub use limits::LONGEST_START;
+pub use limits::{LARGEST_PAGE, LONGEST_START};
 pub use page::page_address;
 pub use rows::{read_row, row_length};
 pub use spelled::is_written_path;
