@@ -38,6 +38,7 @@ mod send;
 mod shelf;
 mod sink;
 mod steps;
+mod usual;
 mod wire;
 
 pub use bytes::Bytes;
@@ -46,7 +47,8 @@ pub use failing::{Failing, Failures};
 pub use fault::Fault;
 pub use laws::numbers_read_back;
 pub use limits::{
-    ENOUGH_PENDING, HEAD_LIMIT, HEADS_LIMIT, HIGHEST_PORT, LINE_LIMIT, PADDING_LIMIT,
+    ENOUGH_PENDING, HEAD_LIMIT, HEADS_LIMIT, HIGHEST_NUMBER, HIGHEST_PORT, LINE_LIMIT,
+    MOST_CHUNK_DIGITS, MOST_FIELDS, MOST_LINKS, PADDING_LIMIT,
 };
 pub use mem_shelf::MemShelf;
 pub use mem_sink::MemSink;
@@ -57,4 +59,5 @@ pub use shelf::{FileFault, Shelf, read_file};
 pub use sink::{Sink, write_all};
 pub use steps::Steps;
 pub use text_base::{OutOfMemory, Text};
+pub use usual::{USUAL_BODY, USUAL_BUDGET, USUAL_LINKS, USUAL_PAGE, USUAL_RETRIES, USUAL_WINDOW};
 pub use wire::{Accept, Dial, MOST_IDLE, Moved, Ready, Wire};

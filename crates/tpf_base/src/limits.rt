@@ -1,4 +1,5 @@
-//! The limits that definitions here name. They are this project's own, but for the highest port.
+//! The limits that definitions here and above name. They are this project's own, but for the highest
+//! port.
 
 /// The most bytes of a request's head, together with the empty lines before it.
 pub const HEAD_LIMIT: usize = 4194304;
@@ -18,3 +19,16 @@ pub const HIGHEST_PORT: usize = 65535;
 
 /// How many bytes of a response are made before they are sent, where so many are owed.
 pub const ENOUGH_PENDING: usize = 65536;
+
+/// The most header fields of a head.
+pub const MOST_FIELDS: usize = 64;
+
+/// The most hexadecimal digits of a chunk's size, zeros in front and all.
+pub const MOST_CHUNK_DIGITS: usize = 15;
+
+/// The highest number of nineteen digits, 9999999999999999999: of a version, of a page's count of
+/// triples, of a seed. Each number of nineteen digits fits 64 bits.
+pub const HIGHEST_NUMBER: u64 = 9999999999999999999;
+
+/// The most connections that a client keeps open.
+pub const MOST_LINKS: u32 = 256;
