@@ -12,7 +12,7 @@ use Rattle.list_laws.proofs.Options.{bind_some, when_some}
 use Rattle.tpf_base.specs.Addresses.{Address, IsAddress, is_host_byte, is_host}
 use Rattle.template_fill.specs.WebAddress.{IsNoAddress}
 use Rattle.template_fill.specs.ReadAddress.{Spelled, IsSpelled, Spells, SpellsPort, ◌>>=◌, when, after_scheme, is_port_text, is_rest, normal, opened, port_after, port_part, read_address, read_spelled}
-use Rattle.command_words.specs.declared.values.TheConstants.{LONGEST_TYPED}
+use Rattle.command_words.specs.declared.limits.TheConstants.{LONGEST_TYPED}
 use Rattle.command_words.specs.Commands.{url_of}
 use Rattle.template_fill.proofs.Passing.{list_all-front}
 use Rattle.template_fill.proofs.Ports.{above_first, positive, spells_digits, spells_no_port, spells_port}

@@ -5,14 +5,19 @@ use Rattle.std.specs.Option.{option_map}
 use Rattle.std.specs.Str.{bytes_eq}
 use Rattle.list_laws.specs.Options.{◌>>=◌, when}
 use Rattle.rdf_terms.specs.Iri.{is_iri, is_digit}
+use Rattle.rdf_terms.specs.declared.limits.TheConstants.{MOST_ROWS}
+use Rattle.tpf_base.specs.declared.limits.TheConstants.{HIGHEST_NUMBER, MOST_LINKS}
+use Rattle.tpf_base.specs.declared.usual.TheConstants.{USUAL_WINDOW, USUAL_LINKS, USUAL_RETRIES, USUAL_BUDGET, USUAL_BODY, USUAL_PAGE}
 use Rattle.tpf_base.specs.Addresses.{Address, authority_of}
 use Rattle.template_fill.specs.ReadAddress.{read_address}
 use Rattle.template_fill.specs.Configurations.{is_reload_path}
+use Rattle.template_fill.specs.declared.limits.TheConstants.{LARGEST_PAGE}
+use Rattle.generated_data.specs.declared.limits.TheConstants.{MOST_PERSONS}
 use Rattle.triple_table.specs.declared.choice.Choice.{Choice}
 use Rattle.triple_table.specs.declared.choice.Choice.TheVariants.{DefaultGraph, Named, Union}
 use Rattle.command_words.specs.Words.{Form, Text, Values, arguments}
 use Rattle.command_words.specs.declared.command.ClientWords.{ClientWords}
-use Rattle.command_words.specs.declared.values.TheConstants.{LONGEST_TYPED}
+use Rattle.command_words.specs.declared.limits.TheConstants.{LONGEST_TYPED, MOST_WINDOW, MOST_RETRIES, MOST_BUDGET, LARGEST_BODY, MOST_CONNECTIONS, RAREST_FAILURE}
 
 -- what is asked of several servers: the query, of each server the address of a page, and the client's options
 pub record Federated : Type 0 where
@@ -158,30 +163,31 @@ choice_of (Some name) true = None
 abbrev pub choice_in : Values → Option Choice
 choice_in values = choice_of (values (codes "graph")) (is_true (values (codes "union")))
 
+-- --page 1 to LARGEST_PAGE (1000), else USUAL_PAGE (100)
 abbrev pub page_in : Values → Option ℕ
-page_in values = number_in values (codes "page") 1 1000 100
+page_in values = number_in values (codes "page") 1 LARGEST_PAGE USUAL_PAGE
 
--- --window 1 to 10000, else 16; --block 2 to 64, else 1; --links 1 to 256, else 8; --retries 0 to 100, else 2; --budget 1 to 10^12, else 10^6; --max-body 1 to 256 MiB, else 16 MiB
+-- --window 1 to MOST_WINDOW (10000), else USUAL_WINDOW (16); --block 2 to MOST_ROWS (64), else 1; --links 1 to MOST_LINKS (256), else USUAL_LINKS (8); --retries 0 to MOST_RETRIES (100), else USUAL_RETRIES (2); --budget 1 to MOST_BUDGET (10^12), else USUAL_BUDGET (10^6); --max-body 1 to LARGEST_BODY (256 MiB), else USUAL_BODY (16 MiB)
 abbrev pub client_in : Values → Option ClientWords
 client_in values = do
-  window ← number_in values (codes "window") 1 10000 16
-  block ← number_in values (codes "block") 2 64 1
-  links ← number_in values (codes "links") 1 256 8
-  retries ← number_in values (codes "retries") 0 100 2
-  budget ← number_in values (codes "budget") 1 1000000000000 1000000
-  max_body ← number_in values (codes "max-body") 1 268435456 16777216
+  window ← number_in values (codes "window") 1 MOST_WINDOW USUAL_WINDOW
+  block ← number_in values (codes "block") 2 MOST_ROWS 1
+  links ← number_in values (codes "links") 1 MOST_LINKS USUAL_LINKS
+  retries ← number_in values (codes "retries") 0 MOST_RETRIES USUAL_RETRIES
+  budget ← number_in values (codes "budget") 1 MOST_BUDGET USUAL_BUDGET
+  max_body ← number_in values (codes "max-body") 1 LARGEST_BODY USUAL_BODY
   Some (record { window = window; block = block; links = links; retries = retries; budget = budget; max_body = max_body })
 
--- --seed to 9999999999999999999, else 0; none is given beside --block
+-- --seed to HIGHEST_NUMBER (9999999999999999999), else 0; none is given beside --block
 abbrev pub seed_beside : Bool → Option Text → Option ℕ
-seed_beside false given = number_or 0 9999999999999999999 0 given
+seed_beside false given = number_or 0 HIGHEST_NUMBER 0 given
 seed_beside true None = Some 0
 seed_beside true (Some text) = None
 
 abbrev pub seed_in : Values → Option ℕ
 seed_in values = seed_beside (is_some (values (codes "block"))) (values (codes "seed"))
 
--- local FILE QUERYFILE; --fail-every to 10^9, else 0, which is never
+-- local FILE QUERYFILE; --fail-every to RAREST_FAILURE (10^9), else 0, which is never
 abbrev pub local_with : Values → Option Choice → Option ClientWords → Option Command
 local_with values chosen asked = do
   name ← values (codes "FILE")
@@ -190,7 +196,7 @@ local_with values chosen asked = do
   client ← asked
   page ← page_in values
   seed ← seed_in values
-  fail_every ← number_in values (codes "fail-every") 0 1000000000 0
+  fail_every ← number_in values (codes "fail-every") 0 RAREST_FAILURE 0
   Some (local name query_name choice page client seed fail_every)
 
 abbrev pub local_from : Values → Option Command
@@ -225,13 +231,13 @@ rows_beside reload rows = when (not (rows && is_some reload)) rows
 abbrev pub rows_in : Values → Option Text → Option Bool
 rows_in values reload = rows_beside reload (is_true (values (codes "rows")))
 
--- serve FILE, with --base; --stop-after 1 to 10^9
+-- serve FILE, with --base; --stop-after 1 to MOST_CONNECTIONS (10^9)
 abbrev pub serve_with : Values → Option Choice → Address → Option Text → Option Command
 serve_with values chosen base reload = do
   name ← values (codes "FILE")
   choice ← chosen
   page ← page_in values
-  stop_after ← count_of 1 1000000000 (values (codes "stop-after"))
+  stop_after ← count_of 1 MOST_CONNECTIONS (values (codes "stop-after"))
   rows ← rows_in values reload
   Some (serve name base choice page stop_after reload rows)
 
@@ -241,10 +247,10 @@ serve_from values = do
   reload ← reload_of base (values (codes "reload"))
   serve_with values (choice_in values) base reload
 
--- make N, 1 to 1000000
+-- make N, 1 to MOST_PERSONS (1000000)
 abbrev pub make_from : Values → Option Command
 make_from values = do
-  count ← values (codes "N") >>= number_of 1 1000000
+  count ← values (codes "N") >>= number_of 1 MOST_PERSONS
   Some (make count (values (codes "run")))
 
 -- ---- the words after the name of each command

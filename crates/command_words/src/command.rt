@@ -6,20 +6,23 @@ use triple_table::Choice;
 /// The options with which a client asks.
 #[derive(Clone, Copy, Debug, PartialEq, Eq)]
 pub struct ClientWords {
-    /// `--window`: how many rows are extended at once, 1 to 10000; 16 where it is not given.
+    /// `--window`: how many rows are extended at once, 1 to `MOST_WINDOW` (10000); `USUAL_WINDOW` (16)
+    /// where it is not given.
     pub window: u32,
-    /// `--block`: how many rows one request carries at most, 2 to 64; 1 where it is not given, which is to
-    /// ask row by row. Then a query is read as one basic graph pattern, without groups.
+    /// `--block`: how many rows one request carries at most, 2 to `MOST_ROWS` (64); 1 where it is not given,
+    /// which is to ask row by row. Then a query is read as one basic graph pattern, without groups.
     pub block: u32,
-    /// `--links`: how many connections are open at once, 1 to 256; 8 where it is not given.
+    /// `--links`: how many connections are open at once, 1 to `MOST_LINKS` (256); `USUAL_LINKS` (8) where
+    /// it is not given.
     pub links: u32,
-    /// `--retries`: how often a request that failed is sent again, 0 to 100; 2 where it is not given.
+    /// `--retries`: how often a request that failed is sent again, 0 to `MOST_RETRIES` (100);
+    /// `USUAL_RETRIES` (2) where it is not given.
     pub retries: u32,
-    /// `--budget`: how many exchanges are started at most, 1 to 1000000000000; 1000000 where it is
-    /// not given.
+    /// `--budget`: how many exchanges are started at most, 1 to `MOST_BUDGET` (1000000000000);
+    /// `USUAL_BUDGET` (1000000) where it is not given.
     pub budget: u64,
-    /// `--max-body`: the most bytes of a reply's body, 1 to 268435456; 16777216 where it is not
-    /// given.
+    /// `--max-body`: the most bytes of a reply's body, 1 to `LARGEST_BODY` (268435456); `USUAL_BODY`
+    /// (16777216) where it is not given.
     pub max_body: u64,
 }
 
@@ -33,14 +36,16 @@ pub struct LocalWords<'a> {
     pub query: &'a str,
     /// `--graph IRI` or `--union`, and else the default graph.
     pub choice: Choice,
-    /// `--page`: the most triples of a page, 1 to 1000; 100 where it is not given.
+    /// `--page`: the most triples of a page, 1 to `LARGEST_PAGE` (1000); `USUAL_PAGE` (100) where it is not
+    /// given.
     pub page: u64,
     /// The options of the client.
     pub client: ClientWords,
-    /// `--seed`: of the random order of events, 0 to 9999999999999999999; 0 where it is not given. It is
-    /// refused beside `--block`.
+    /// `--seed`: of the random order of events, 0 to `HIGHEST_NUMBER` (9999999999999999999); 0 where it is
+    /// not given. It is refused beside `--block`.
     pub seed: u64,
-    /// `--fail-every N`: each N-th dial fails, up to 1000000000; 0, as where it is not given, is never.
+    /// `--fail-every N`: each N-th dial fails, up to `RAREST_FAILURE` (1000000000); 0, as where it is not
+    /// given, is never.
     pub fail_every: u64,
 }
 
@@ -76,9 +81,11 @@ pub struct ServeWords<'a> {
     pub base: WebAddress,
     /// `--graph IRI` or `--union`, and else the default graph.
     pub choice: Choice,
-    /// `--page`: the most triples of a page, 1 to 1000; 100 where it is not given.
+    /// `--page`: the most triples of a page, 1 to `LARGEST_PAGE` (1000); `USUAL_PAGE` (100) where it is not
+    /// given.
     pub page: u64,
-    /// `--stop-after`: after how many connections to stop, 1 to 1000000000, and else never.
+    /// `--stop-after`: after how many connections to stop, 1 to `MOST_CONNECTIONS` (1000000000), and else
+    /// never.
     pub stop_after: Option<u64>,
     /// `--reload`: the path on which a request has the file read again, which is a written path and not
     /// that of the base.
@@ -99,8 +106,8 @@ pub enum Command<'a> {
     Federate(FederateWords<'a>),
     /// `serve FILE --base URL`: to serve a file of data.
     Serve(ServeWords<'a>),
-    /// `make N`: to write the data of so many persons, 1 to 1000000, or with `--run QUERYFILE` to ask
-    /// a query of them.
+    /// `make N`: to write the data of so many persons, 1 to `MOST_PERSONS` (1000000), or with
+    /// `--run QUERYFILE` to ask a query of them.
     Make {
         /// `N`: how many persons.
         count: u32,

@@ -1,5 +1,5 @@
 // The arguments of each command.
-ghost use Rattle.std.specs.Prelude.{◌≡◌, ◌^◌, ◌≤◌, IfOk, IfSome, option_map, map, string_bytes};
+ghost use Rattle.std.specs.Prelude.{◌≡◌, ◌≤◌, IfOk, IfSome, option_map, map, string_bytes};
 ghost use Rattle.command_words.specs.Apps.{found_in};
 ghost use Rattle.command_words.specs.Words.{arguments};
 ghost use Rattle.command_words.specs.Commands.{words_of, number_in, client_in, choice_in, page_in, seed_in, local_with, local_from, query_with, query_from, rows_in, serve_with, serve_from, make_from, command_by, command_of};
@@ -13,10 +13,18 @@ use crate::values::{
     base_of, choice_of, count_of, is_true, number_of, number_or, reload_of, rows_beside,
     seed_beside, url_of,
 };
+use crate::{
+    LARGEST_BODY, MOST_BUDGET, MOST_CONNECTIONS, MOST_RETRIES, MOST_WINDOW, RAREST_FAILURE,
+};
 use clap::ArgMatches;
+use generated_data::MOST_PERSONS;
+use rdf_terms::MOST_ROWS;
 use std::alloc::Global;
-use template_fill::WebAddress;
-use tpf_base::{OutOfMemory, Text};
+use template_fill::{LARGEST_PAGE, WebAddress};
+use tpf_base::{
+    MOST_LINKS, OutOfMemory, Text, USUAL_BODY, USUAL_BUDGET, USUAL_LINKS, USUAL_PAGE,
+    USUAL_RETRIES, USUAL_WINDOW,
+};
 use triple_table::Choice;
 
 /// The value of an argument in the words, where it has one.
@@ -28,8 +36,7 @@ pub(crate) fn value_of<'a>(matches: &ArgMatches<'a>, name: &str) -> Option<&'a s
 
 /// The number of an option, or the usual one.
 fn number_in(matches: &ArgMatches<'_>, name: &str, low: u64, high: u64, usual: u64) -> Option<u64>
-    requires bound { high ≤ 10 ^ 19 }
-    requires usual { usual ≤ high }
+    requires { usual ≤ high }
     ensures value { result ≡ number_in (found_in matches.now) name.now low high usual }
     ensures within { IfSome result (λ n. n ≤ high) }
 {
@@ -56,12 +63,12 @@ fn small_in(matches: &ArgMatches<'_>, name: &str, low: u32, high: u32, usual: u3
 pub(crate) fn client_in(matches: &ArgMatches<'_>) -> Option<ClientWords>
     ensures { result ≡ client_in (found_in matches.now) }
 {
-    let window = small_in(matches, "window", 1, 10000, 16)?;
-    let block = small_in(matches, "block", 2, 64, 1)?;
-    let links = small_in(matches, "links", 1, 256, 8)?;
-    let retries = small_in(matches, "retries", 0, 100, 2)?;
-    let budget = number_in(matches, "budget", 1, 1000000000000, 1000000)?;
-    let max_body = number_in(matches, "max-body", 1, 268435456, 16777216)?;
+    let window = small_in(matches, "window", 1, MOST_WINDOW, USUAL_WINDOW)?;
+    let block = small_in(matches, "block", 2, MOST_ROWS as u32, 1)?;
+    let links = small_in(matches, "links", 1, MOST_LINKS, USUAL_LINKS)?;
+    let retries = small_in(matches, "retries", 0, MOST_RETRIES, USUAL_RETRIES)?;
+    let budget = number_in(matches, "budget", 1, MOST_BUDGET, USUAL_BUDGET)?;
+    let max_body = number_in(matches, "max-body", 1, LARGEST_BODY, USUAL_BODY)?;
     Some(ClientWords {
         window,
         block,
@@ -83,7 +90,7 @@ fn choice_in(alloc: Global, matches: &ArgMatches<'_>) -> Result<Option<Choice>, 
 fn page_in(matches: &ArgMatches<'_>) -> Option<u64>
     ensures { result ≡ page_in (found_in matches.now) }
 {
-    number_in(matches, "page", 1, 1000, 100)
+    number_in(matches, "page", 1, LARGEST_PAGE, USUAL_PAGE)
 }
 
 /// The seed, which is not given beside blocks of rows.
@@ -109,7 +116,7 @@ fn local_with<'a>(
     let client = client?;
     let page = page_in(matches)?;
     let seed = seed_in(matches)?;
-    let fail_every = number_in(matches, "fail-every", 0, 1000000000, 0)?;
+    let fail_every = number_in(matches, "fail-every", 0, RAREST_FAILURE, 0)?;
     Some(Command::Local(LocalWords {
         name,
         query,
@@ -175,7 +182,7 @@ fn serve_with<'a>(
     let name = value_of(matches, "FILE")?;
     let choice = choice?;
     let page = page_in(matches)?;
-    let stop_after = count_of(value_of(matches, "stop-after"), 1, 1000000000)?;
+    let stop_after = count_of(value_of(matches, "stop-after"), 1, MOST_CONNECTIONS)?;
     let rows = rows_in(matches, &reload)?;
     Some(Command::Serve(ServeWords {
         name,
@@ -211,7 +218,7 @@ fn make_from<'a>(matches: &ArgMatches<'a>) -> Option<Command<'a>>
     ensures { option_map command_view result ≡ make_from (found_in matches.now) }
 {
     let text = value_of(matches, "N")?;
-    let count = number_of(text, 1, 1000000)?;
+    let count = number_of(text, 1, u64::from(MOST_PERSONS))?;
     Some(Command::Make {
         count: count as u32,
         run: value_of(matches, "run"),

@@ -18,8 +18,12 @@ mod arguments;
 mod command;
 mod federate;
 mod from;
+mod limits;
 mod values;
 
 pub use command::{ClientWords, Command, FederateWords, LocalWords, QueryWords, ServeWords};
 pub use from::command_of;
-pub use values::LONGEST_TYPED;
+pub use limits::{
+    LARGEST_BODY, LONGEST_TYPED, MOST_BUDGET, MOST_CONNECTIONS, MOST_RETRIES, MOST_WINDOW,
+    RAREST_FAILURE,
+};

@@ -1,17 +1,15 @@
 // Values in words: numbers, addresses, paths and graphs.
-ghost use Rattle.std.specs.Prelude.{◌≡◌, ◌^◌, ◌<◌, ◌≤◌, Some, None, IfOk, IfSome, MatchOption, option_map, false};
+ghost use Rattle.std.specs.Prelude.{◌≡◌, ◌<◌, ◌≤◌, Some, None, IfOk, IfSome, MatchOption, option_map, false};
 ghost use Rattle.std.specs.List.{list_all};
 ghost use Rattle.rdf_terms.specs.Iri.{is_digit};
 ghost use Rattle.command_words.specs.Commands.{is_number, number_after, number_of, number_or, count_of, url_of, base_of, without_query, reload_of, is_true, rows_beside, seed_beside, choice_of};
 
+use crate::LONGEST_TYPED;
 use rdf_terms::is_iri;
 use std::alloc::Global;
 use template_fill::{AddressFault, WebAddress, is_written_path};
-use tpf_base::{OutOfMemory, Text};
+use tpf_base::{HIGHEST_NUMBER, OutOfMemory, Text};
 use triple_table::Choice;
-
-/// The most bytes of an address as it is typed.
-pub const LONGEST_TYPED: usize = 2048;
 
 fn are_digits(text: &[u8]) -> bool
     ensures { result ≡ list_all is_digit text.now }
@@ -28,7 +26,6 @@ fn is_number(text: &[u8]) -> bool
 /// The number that digits write, where it is not above a bound.
 #[tactic(auto, using(crate::proofs::Numbers::number_after_least))]
 fn value_up_to(digits: &[u8], high: u64) -> Option<u64>
-    requires { high ≤ 10 ^ 19 }
     ensures { MatchOption result (high < number_after 0 digits.now)
         (λ n. (n ≡ number_after 0 digits.now) × (n ≤ high)) }
 {
@@ -45,7 +42,6 @@ fn value_up_to(digits: &[u8], high: u64) -> Option<u64>
 
 /// The number that a text of 1 to 19 digits is, where it is in a range.
 pub fn number_of(text: &str, low: u64, high: u64) -> Option<u64>
-    requires { high ≤ 10 ^ 19 }
     ensures value { result ≡ number_of low high text.now }
     ensures within { IfSome result (λ n. n ≤ high) }
 {
@@ -60,8 +56,7 @@ pub fn number_of(text: &str, low: u64, high: u64) -> Option<u64>
 
 /// The number that a text is, or the usual one where there is none.
 pub fn number_or(text: Option<&str>, low: u64, high: u64, usual: u64) -> Option<u64>
-    requires bound { high ≤ 10 ^ 19 }
-    requires usual { usual ≤ high }
+    requires { usual ≤ high }
     ensures value { result ≡ number_or low high usual (option_map (λ t. t.now) text.entry) }
     ensures within { IfSome result (λ n. n ≤ high) }
 {
@@ -73,7 +68,6 @@ pub fn number_or(text: Option<&str>, low: u64, high: u64, usual: u64) -> Option<
 
 /// The number that a text is, if there is one.
 pub fn count_of(text: Option<&str>, low: u64, high: u64) -> Option<Option<u64>>
-    requires { high ≤ 10 ^ 19 }
     ensures { result ≡ count_of low high (option_map (λ t. t.now) text.entry) }
 {
     let Some(text) = text else {
@@ -168,7 +162,7 @@ pub fn seed_beside(in_blocks: bool, text: Option<&str>) -> Option<u64>
     ensures { result ≡ seed_beside in_blocks (option_map (λ t. t.now) text.entry) }
 {
     if !in_blocks {
-        return number_or(text, 0, 9999999999999999999, 0);
+        return number_or(text, 0, HIGHEST_NUMBER, 0);
     }
     match text {
         None => Some(0),

@@ -12,7 +12,7 @@ use Rattle.tpf_base.specs.Addresses.{Address, authority_of}
 use Rattle.template_fill.specs.declared.limits.TheConstants.{LONGEST_START}
 use Rattle.template_fill.specs.Configurations.{HasReloadPath, is_reload_path}
 use Rattle.template_fill.specs.ReadAddress.{read_address}
-use Rattle.command_words.specs.declared.values.TheConstants.{LONGEST_TYPED}
+use Rattle.command_words.specs.declared.limits.TheConstants.{LONGEST_TYPED}
 use Rattle.command_words.specs.declared.command.ClientWords.{ClientWords}
 use Rattle.command_words.specs.Words.{Text, Values, Form, arguments}
 use Rattle.command_words.specs.Commands.{Command, Federated, federate, local_form, query_form, federate_form, serve_form, make_form, is_number, number_after, number_of, number_or, number_in, count_of, url_of, without_query, base_of, reload_of, choice_in, page_in, client_in, url_names, urls_in, url_and, has_authority, are_apart, servers_in, federate_with, rows_in, seed_in, local_from, query_from, federate_from, serve_from, make_from, words_of, command_of, local_of, query_of, federate_of, serve_of, make_of}
