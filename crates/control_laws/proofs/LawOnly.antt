@@ -6,6 +6,7 @@ use Rattle.rdf_terms.specs.declared.term.Term.{Term}
 use Rattle.rdf_terms.specs.declared.term.Term.TheVariants.{Iri}
 use Rattle.rdf_terms.specs.declared.term.Triple.{Triple}
 use Rattle.rdf_terms.specs.Selections.{Selection}
+use Rattle.tpf_base.specs.declared.limits.TheConstants.{HIGHEST_NUMBER}
 use Rattle.tpf_base.specs.Addresses.{Address, IsAddress, address_text, authority_of}
 use Rattle.template_fill.specs.declared.form.Form.{Form}
 use Rattle.template_fill.specs.Templates.{Template, read_template, expansion}
@@ -36,8 +37,8 @@ module _ (ts : List Triple) (there back : Bool) (m : Parts) where
   number_taken : (n : ℕ) → IsCount (body ts there back m) m.page n → IsNumber (integer m.count) n
   number_taken n h = subst (λ (t : Term). IsNumber t n) (count_object ts there back m h.0 h.1.0) h.2
 
-  -- a count that is taken has 19 digits at most
-  pub count_fits : (n : ℕ) → IsCount (body ts there back m) m.page n → m.count ≤ 9999999999999999999
+  -- a count that is taken is at most HIGHEST_NUMBER
+  pub count_fits : (n : ℕ) → IsCount (body ts there back m) m.page n → m.count ≤ HIGHEST_NUMBER
   unfolding integer
   count_fits n h = count_bound m.count (number_taken n h).0
 

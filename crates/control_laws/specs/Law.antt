@@ -4,19 +4,20 @@ use Rattle.std.specs.List.{AllByRecursion}
 use Rattle.rdf_terms.specs.declared.term.Triple.{Triple}
 use Rattle.rdf_terms.specs.Selections.{Selection, selected, selected_page, selected_last}
 use Rattle.rdf_terms.specs.declared.limits.TheConstants.{LONGEST_READ}
+use Rattle.tpf_base.specs.declared.limits.TheConstants.{HIGHEST_NUMBER}
 use Rattle.tpf_base.specs.Addresses.{Address, IsAddress, authority_of}
 use Rattle.template_fill.specs.declared.form.Form.{Form}
 use Rattle.template_fill.specs.Pages.{page_address, server_template}
 use Rattle.template_fill.specs.Metadata.{Config}
-use Rattle.template_fill.specs.Configurations.{IsConfig, IsHistory, most_versions}
+use Rattle.template_fill.specs.Configurations.{IsConfig, IsHistory}
 use Rattle.template_fill.specs.Bodies.{version_of, page_quads, page_body}
 use Rattle.fragment_page.specs.declared.page.Page.{Page}
 use Rattle.control_reader.specs.Takes.{Takes}
 pub use Rattle.own_controls.specs.Safe.{IsShort, IsShortGraph, HasShortTerms}
 
--- within the limits of reading: a count of 19 digits at most, and terms of at most LONGEST_READ bytes
+-- within the limits of reading: a count of at most HIGHEST_NUMBER, and terms of at most LONGEST_READ bytes
 pub record IsWithinLimits (history : List (List Triple)) (version : ℕ) (config : Config) (s : Selection) (k : ℕ) : Type 0 where
-  pub count : length (selected (version_of history version) s) ≤ 9999999999999999999
+  pub count : length (selected (version_of history version) s) ≤ HIGHEST_NUMBER
   pub terms : AllByRecursion (HasShortTerms LONGEST_READ) (page_quads history version config s k)
 
 -- the address of the next page, exactly where k is below the last
@@ -39,9 +40,9 @@ pub record IsPageOf (triples : List Triple) (version : ℕ) (config : Config) (s
   pub form : IsServerForm config.base page.form
   pub version_is : page.version ≡ Some version
 
--- the version has 1 to 19 digits, as each version of a history has
+-- the version is at most HIGHEST_NUMBER, as each version of a history is
 abbrev pub IsVersionNumber : ℕ → Type 0
-IsVersionNumber version = version ≤ most_versions
+IsVersionNumber version = version ≤ HIGHEST_NUMBER
 
 -- within these limits, and under each address of the server's authority, the body of a page is read as that page
 abbrev pub ControlsReadBack : Type 0

@@ -25,6 +25,7 @@ use Rattle.triple_table.specs.Genid.{skolem_triple}
 use Rattle.triple_table.specs.Served.{terms_in, Clashes, IsLeastClash, IsServed}
 use Rattle.triple_table.specs.Stored.{PassesMost}
 use Rattle.triple_table.proofs.Distinct.{terms_few}
+use Rattle.generated_data.specs.declared.limits.TheConstants.{MOST_PERSONS}
 use Rattle.generated_data.specs.Generated.{names, cities, about, generated, IsGroundQuad}
 use Rattle.generated_data.proofs.Classes.{all_are_ground}
 
@@ -108,7 +109,7 @@ served_few authority triples served s =
     (is_member-Decides triple_decided (map (skolem_triple authority) triples) q).1 ((s.members q).0 ((is_member-Decides triple_decided served q).0 m))) in
     let e = length-map triples (skolem_triple authority) in omega (arith, some, e)
 
-pub not_too_many : (authority : List ℕ) (n : ℕ) → n ≤ 1000000 → PassesMost MOST_TRIPLES authority (chosen DefaultGraph (generated n)) → ⊥
+pub not_too_many : (authority : List ℕ) (n : ℕ) → n ≤ MOST_PERSONS → PassesMost MOST_TRIPLES authority (chosen DefaultGraph (generated n)) → ⊥
 not_too_many authority n most p = over p.passes
   where
     few : length p.triples ≤ 3 * n
@@ -130,5 +131,5 @@ module _ (authority : List ℕ) (n : ℕ) (quads : List Quad) (are : quads ≡ g
   pub no_clash_of : (label : List ℕ) → IsLeastClash authority (chosen DefaultGraph quads) label → ⊥
   no_clash_of label h = no_clash authority n label (subst (λ (qs : List Quad). Clashes authority (chosen DefaultGraph qs) label) are h.clashes)
 
-  pub not_too_many_of : n ≤ 1000000 → PassesMost MOST_TRIPLES authority (chosen DefaultGraph quads) → ⊥
+  pub not_too_many_of : n ≤ MOST_PERSONS → PassesMost MOST_TRIPLES authority (chosen DefaultGraph quads) → ⊥
   not_too_many_of most p = not_too_many authority n most (subst (λ (qs : List Quad). PassesMost MOST_TRIPLES authority (chosen DefaultGraph qs)) are p)

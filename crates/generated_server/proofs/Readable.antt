@@ -22,6 +22,7 @@ use Rattle.nquads_text.specs.Reads.{Reads, IsOkOrMemory}
 use Rattle.nquads_text.specs.declared.fault.Why.{Why}
 use Rattle.nquads_text.specs.declared.fault.TextFault.{TextFault}
 use Rattle.nquads_text.specs.declared.fault.TextFault.TheVariants.{Bad}
+use Rattle.generated_data.specs.declared.limits.TheConstants.{MOST_PERSONS}
 use Rattle.generated_data.specs.Generated.{person, city, name, knows, names, cities, about, generated}
 use Rattle.generated_data.proofs.Texts.{number_text}
 
@@ -90,7 +91,7 @@ all_about : (P : Quad → Type 0) (n : ℕ) → ((i : ℕ) → i < n → AllByRe
 all_about P n each from zero within = tt
 all_about P n each from (suc k) within = all_append P (about n from) (flat_map (about n) (range_with_len (from + 1) k)) (each from (omega arith)) (all_about P n each (from + 1) k (omega arith))
 
-about_reads : (n i : ℕ) → n ≤ 1000000 → i < n → AllByRecursion (IsReadable LONGEST_TERM) (about n i)
+about_reads : (n i : ℕ) → n ≤ MOST_PERSONS → i < n → AllByRecursion (IsReadable LONGEST_TERM) (about n i)
 unfolding about knows names cities
 about_reads n i most below =
     let small : i < 2 ^ 64 = omega arith in
@@ -103,12 +104,12 @@ about_reads n i most below =
           (all_if (IsReadable LONGEST_TERM) (i % 10 == 0) _ (record { classes = record { triple = record { subject = tt; predicate = tt }; graph = tt }; subject = subject; predicate = plain_iri (codes "http://example.org/city") refl refl (lit≤ tt); object = city_reads (i % 7) (omega (arith, mod_below i 7 (lit< tt))); graph = tt })),
     )
 
-pub generated_reads : (n : ℕ) → n ≤ 1000000 → AllByRecursion (IsReadable LONGEST_TERM) (generated n)
+pub generated_reads : (n : ℕ) → n ≤ MOST_PERSONS → AllByRecursion (IsReadable LONGEST_TERM) (generated n)
 unfolding generated
 generated_reads n most = all_about (IsReadable LONGEST_TERM) n (λ i below. about_reads n i most below) 0 n (omega arith)
 
 -- the text is read as the generated quads
-pub text_reads : CanonReadsBack → (n : ℕ) → n ≤ 1000000 → (bytes : List ℕ) → bytes ≡ canon (generated n) → Reads bytes LONGEST_TERM (generated n)
+pub text_reads : CanonReadsBack → (n : ℕ) → n ≤ MOST_PERSONS → (bytes : List ℕ) → bytes ≡ canon (generated n) → Reads bytes LONGEST_TERM (generated n)
 text_reads law n most bytes is = subst (λ (b : List ℕ). Reads b LONGEST_TERM (generated n)) (sym is) (law LONGEST_TERM (generated n) (generated_reads n most))
 
 -- what is read has no fault

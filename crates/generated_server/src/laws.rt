@@ -3,8 +3,8 @@ ghost use Rattle.generated_server.specs.Starts.{GeneratedAreSmall};
 
 use triple_table::laws::{authorities_are_short, served_terms_are_short};
 
-/// The data of at most 1000000 persons have at most 3000000 triples, whose terms have canonical texts of
-/// at most `LONGEST_TERM` (262144) bytes, as those of a file that is served.
+/// The data of at most `MOST_PERSONS` (1000000) persons have at most three triples for each, and the terms have
+/// canonical texts of at most `LONGEST_TERM` (262144) bytes, as those of a file that is served.
 pub fn generated_data_are_small()
     ensures { GeneratedAreSmall }
 {

@@ -9,6 +9,7 @@ ghost use Rattle.triple_table.specs.Chosen.{chosen};
 ghost use Rattle.triple_table.specs.Served.{IsServed};
 ghost use Rattle.triple_table.specs.Stored.{triples_in};
 ghost use Rattle.fragment_server.specs.Fragments.{serving_of};
+ghost use Rattle.generated_data.specs.declared.limits.TheConstants.{MOST_PERSONS};
 ghost use Rattle.generated_data.specs.Generated.{generated};
 ghost use Rattle.generated_server.specs.Starts.{StartsGenerated};
 
@@ -36,7 +37,7 @@ fn generated_text(alloc: Global, persons: u32) -> Result<MemSink, OutOfMemory>
 
 /// The quads that are read of the text of the data of so many persons.
 fn generated_quads(alloc: Global, persons: u32) -> Result<Vec<Quad>, OutOfMemory>
-    requires { persons ≤ 1000000 }
+    requires { persons ≤ MOST_PERSONS }
     ensures quads { IfOk result (λ v. v.items ≡ generated persons) }
     ensures classes { IfOk result (λ v. All IsRdfQuad v.items) }
 {
@@ -51,7 +52,7 @@ fn generated_quads(alloc: Global, persons: u32) -> Result<Vec<Quad>, OutOfMemory
 
 /// The table of the data of so many persons, under an authority.
 fn generated_table(alloc: Global, persons: u32, authority: &str) -> Result<Table, OutOfMemory>
-    requires few { persons ≤ 1000000 }
+    requires few { persons ≤ MOST_PERSONS }
     requires authority { IsAuthority authority.now }
     ensures { IfOk result (λ table.
         IsServed authority.now (chosen choices.DefaultGraph (generated persons)) (triples_in table)) }
@@ -73,7 +74,7 @@ fn generated_table(alloc: Global, persons: u32, authority: &str) -> Result<Table
 
 /// The same under the authority of the base.
 fn table_of(alloc: Global, persons: u32, config: &Config) -> Result<Table, OutOfMemory>
-    requires { persons ≤ 1000000 }
+    requires { persons ≤ MOST_PERSONS }
     ensures { IfOk result (λ table.
         IsServed (authority_of config.now.base) (chosen choices.DefaultGraph (generated persons)) (triples_in table)) }
 {
@@ -81,8 +82,8 @@ fn table_of(alloc: Global, persons: u32, config: &Config) -> Result<Table, OutOf
     generated_table(alloc, persons, config.base().authority())
 }
 
-/// The server of the generated data of so many persons, at most 1000000, as version 1, whose fragments
-/// stand where the configuration says. The text of the data is made and read as that of a file would be.
+/// The server of the generated data of so many persons, at most `MOST_PERSONS` (1000000), as version 1, whose
+/// fragments stand where the configuration says. The text of the data is made and read as that of a file would be.
 ///
 /// Fails only where memory runs out: the sink of the text never fails, and the text has no fault, no blank
 /// node, and few enough triples.
@@ -91,7 +92,7 @@ pub fn server_of_generated(
     persons: u32,
     config: Config,
 ) -> Result<FragmentServer, OutOfMemory>
-    requires { persons ≤ 1000000 }
+    requires { persons ≤ MOST_PERSONS }
     ensures { IfOk result (λ server. StartsGenerated persons config (serving_of server.server)) }
 {
     let table = table_of(alloc, persons, &config)?;

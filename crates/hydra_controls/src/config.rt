@@ -4,14 +4,14 @@ ghost use Rattle.template_fill.specs.Answers.{is_path_of_reload};
 ghost use Rattle.template_fill.specs.Configurations.{IsConfig, is_reload_path, reading_rows, with_reload};
 
 use std::marker::Model;
-use template_fill::{WebAddress, is_written_path};
+use template_fill::{LARGEST_PAGE, WebAddress, is_written_path};
 use tpf_base::Text;
 
 /// Where the fragments of a server stand, how many triples a page has at most, the path on which
 /// a request has the data read again, if there is one, and whether rows that a request carries are read.
 ///
-/// The base has no query part, the page size is 1 to 1000, and the path is written and not that of
-/// the base. Contracts see it as the record of the four.
+/// The base has no query part, the page size is 1 to `LARGEST_PAGE` (1000), and the path is written and
+/// not that of the base. Contracts see it as the record of the four.
 #[derive(Debug, Drop)]
 pub struct Config {
     base: WebAddress,
@@ -22,6 +22,7 @@ pub struct Config {
 
 impl Model for Config {
     ghost use Rattle.std.specs.Prelude.{◌≡◌, ◌≤◌, None};
+    ghost use Rattle.template_fill.specs.declared.limits.TheConstants.{LARGEST_PAGE};
     ghost use Rattle.template_fill.specs.Configurations.{HasReloadPath};
     ghost use Rattle.template_fill.specs.Metadata as definitions;
 
@@ -29,13 +30,13 @@ impl Model for Config {
 
     ghost view = { λ c. record { base = c.base; page_size = c.page_size; reload = c.reload; rows = c.rows } };
 
-    ghost invariant = { λ c. (c.base.query ≡ None) × (1 ≤ c.page_size) × (c.page_size ≤ 1000) × HasReloadPath c.base c.reload };
+    ghost invariant = { λ c. (c.base.query ≡ None) × (1 ≤ c.page_size) × (c.page_size ≤ LARGEST_PAGE) × HasReloadPath c.base c.reload };
 }
 
 impl Config {
     /// Fragments whose template stands after this base, on pages of so many triples, without a path on
     /// which a request has the data read again; rows that a request carries are passed over. `None` exactly
-    /// where the base has a query part, or the page size is not 1 to 1000. It takes no memory.
+    /// where the base has a query part, or the page size is not 1 to `LARGEST_PAGE` (1000). It takes no memory.
     pub fn new(base: WebAddress, page_size: u64) -> Option<Config>
         ensures config { IfSome result (λ config.
             (config.base ≡ base) × (config.page_size ≡ page_size) × (config.reload ≡ None) × (config.rows ≡ false)) }
@@ -44,7 +45,7 @@ impl Config {
             ↔ ¬ (IsConfig (record { base = base; page_size = page_size; reload = None; rows = false })) }
     {
         base.is_valid();
-        if base.has_query() || page_size == 0 || page_size > 1000 {
+        if base.has_query() || page_size == 0 || page_size > LARGEST_PAGE {
             return None;
         }
         Some(Config {
@@ -91,8 +92,8 @@ impl Config {
         }
     }
 
-    /// The base is an address without a query part, the page size is 1 to 1000, and the path of a reload
-    /// is a written one beside the base's. The call does nothing; it tells a proof of it.
+    /// The base is an address without a query part, the page size is 1 to `LARGEST_PAGE` (1000), and the path
+    /// of a reload is a written one beside the base's. The call does nothing; it tells a proof of it.
     pub fn is_valid(&self)
         ensures { IsConfig self.now }
     {
@@ -109,7 +110,7 @@ impl Config {
         &self.base
     }
 
-    /// The most triples of a page: 1 to 1000.
+    /// The most triples of a page: 1 to `LARGEST_PAGE` (1000).
     pub fn page_size(&self) -> u64
         ensures size { result ≡ self.now.page_size }
         ensures valid { IsConfig self.now }

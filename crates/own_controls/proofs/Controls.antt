@@ -14,6 +14,7 @@ use Rattle.rdf_terms.specs.declared.term.Triple.{Triple}
 use Rattle.rdf_terms.specs.declared.term.Quad.{Quad}
 use Rattle.rdf_terms.specs.Order.{term_order}
 use Rattle.rdf_terms.specs.OrderLaws.{term_total}
+use Rattle.tpf_base.specs.declared.limits.TheConstants.{HIGHEST_NUMBER}
 use Rattle.tpf_base.specs.Addresses.{Address, IsAddress, authority_of}
 use Rattle.tpf_base.specs.Decimals.{decimal_text}
 use Rattle.template_fill.specs.Metadata.{plain, integer}
@@ -81,7 +82,7 @@ module _ (ts : List Triple) (there back : Bool) (m : Parts) where
   count_object o (inl h) = (said_one (asks total_items) (Iri m.page) total_items o (Iri m.page) total_items (integer m.count) (count_asked there back m) h (asked h.graph (Iri m.page) total_items o)).1
   count_object o (inr h) = absurd (h.0 (integer m.count) says_count)
 
-  pub count_is : m.count ≤ 9999999999999999999 → IsCount (body ts there back m) m.page m.count
+  pub count_is : m.count ≤ HIGHEST_NUMBER → IsCount (body ts there back m) m.page m.count
   unfolding integer
   count_is fits = (integer m.count, (inl says_count, count_object), (count_text m.count fits, count_value m.count))
 
@@ -94,7 +95,7 @@ module _ (ts : List Triple) (there back : Bool) (m : Parts) where
   version_only o h =
       (said_one (asks version_info) h.0.0 version_info o (Iri (m.base ++ codes "#dataset")) version_info (plain (decimal_text m.version)) (version_asked there back m) h.0.1 (asked h.0.1.graph h.0.0 version_info o)).1
 
-  pub version_is : m.version ≤ 9999999999999999999 → IsVersion (body ts there back m) m.page (Some m.version)
+  pub version_is : m.version ≤ HIGHEST_NUMBER → IsVersion (body ts there back m) m.page (Some m.version)
   version_is fits =
       let number : IsNumber (plain (decimal_text m.version)) m.version = (count_text m.version fits, count_value m.version) in
       (plain (decimal_text m.version), (((Iri (m.base ++ codes "#dataset"), says_version), (m.version, number)), version_only), number)

@@ -8,6 +8,7 @@ use Rattle.std.proofs.lemmas.Bool.{and_from}
 use Rattle.std.proofs.lemmas.Bool.Decides.{nat_tests}
 use Rattle.list_laws.proofs.Bytes.{digit_ascii}
 use Rattle.list_laws.proofs.Tests.{and_first, and_second}
+use Rattle.tpf_base.specs.declared.limits.TheConstants.{HIGHEST_NUMBER}
 use Rattle.tpf_base.specs.Decimals.{decimal_text}
 use Rattle.tpf_base.proofs.DecimalTexts.{decimal_text-digits, decimal_text-some, decimal_text-short, decimal_text-long, decimal_text-value}
 use Rattle.template_fill.proofs.Addresses.{utf8-ascii}
@@ -19,7 +20,7 @@ use Rattle.page_controls.specs.Controls.{is_count_text}
 count_digits : (form : List ℕ) → 0 < length form → length form ≤ 19 → list_all is_ascii_digit form ≡ true → is_count_text form ≡ true
 count_digits form some few all = and_from (nat_le 1 (length form)) _ (grind (arith, nat_tests)) (and_from (nat_le (length form) 19) _ (grind (arith, nat_tests)) all)
 
-pub count_text : (n : ℕ) → n ≤ 9999999999999999999 → is_count_text (decimal_text n) ≡ true
+pub count_text : (n : ℕ) → n ≤ HIGHEST_NUMBER → is_count_text (decimal_text n) ≡ true
 count_text n fits =
     let below : n < 10 ^ 19 = omega arith in
     count_digits (decimal_text n) (decimal_text-some n) (decimal_text-short n 19 (omega arith) below) (decimal_text-digits n)
@@ -28,7 +29,7 @@ pub count_value : (n : ℕ) → n ≡ digits_value 10 (decimal_text n)
 count_value n = sym (decimal_text-value n)
 
 -- a number that is written as a count is one
-pub count_bound : (n : ℕ) → is_count_text (decimal_text n) ≡ true → n ≤ 9999999999999999999
+pub count_bound : (n : ℕ) → is_count_text (decimal_text n) ≡ true → n ≤ HIGHEST_NUMBER
 count_bound n h =
     let few : length (decimal_text n) ≤ 19 = grind (arith, nat_tests, and_first (nat_le (length (decimal_text n)) 19) _ (and_second (nat_le 1 (length (decimal_text n))) _ h)) in
     let below : n < 10 ^ 19 = decimal_text-long n 19 few in

@@ -9,6 +9,7 @@ use Rattle.rdf_terms.specs.Canon.{canon}
 use Rattle.rdf_terms.specs.declared.term.Quad.{Quad}
 use Rattle.rdf_terms.proofs.Canonical.{canon_of_both}
 use Rattle.rdf_terms.specs.declared.limits.TheConstants.{LONGEST_READ}
+use Rattle.tpf_base.specs.declared.limits.TheConstants.{HIGHEST_NUMBER}
 use Rattle.template_fill.specs.Metadata.{topic_quads, form_quads, mapping_quads, count_quads, link_quads, version_quads}
 use Rattle.own_controls.specs.declared.own.OwnControls.{OwnControls}
 use Rattle.own_controls.specs.Metadata.{Parts, metadata, graph_of, mappings, link_target}
@@ -81,7 +82,7 @@ module _ (page first base template : List ℕ) (next previous : Option (Bor (Lis
 
   pub is_own : (body lines : List ℕ) (own : OwnControls) → own.count ≡ count → own.version ≡ version → own.template.now ≡ template → own.next ≡ next
       → body ≡ own.front.now ++ lines → EndsLine own.front.now → lines ≡ canon (metadata (is_some next) (is_some previous) m) → length lines ≤ LONGEST_READ
-      → count ≤ 9999999999999999999 → version ≤ 9999999999999999999
+      → count ≤ HIGHEST_NUMBER → version ≤ HIGHEST_NUMBER
       → IsWeb page → IsWeb first → IsWeb base → template ≡ base ++ codes "{?subject,predicate,object}" → IfSome next (λ t. IsWeb t.now) → IfSome previous (λ t. IsWeb t.now)
       → IsOwn body page own
   is_own body lines own count_is version_is template_is next_is body_is front_is lines_are short few early page_web first_web base_web template_of next_web previous_web =

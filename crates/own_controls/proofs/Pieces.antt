@@ -3,6 +3,7 @@ use Rattle.std.proofs.Common.{◌≡◌, ◌≢◌, ℕ, ◌≤◌, ◌++◌, tr
 use Rattle.std.specs.Prelude.{IfSome, MatchOption}
 use Rattle.std.specs.Borrow.{Bor}
 use Rattle.std.specs.Str.Parse.{digits_value}
+use Rattle.tpf_base.specs.declared.limits.TheConstants.{HIGHEST_NUMBER}
 use Rattle.tpf_base.specs.Decimals.{decimal_text}
 use Rattle.tpf_base.proofs.DecimalTexts.{of_their_number}
 use Rattle.page_controls.specs.Controls.{is_count_text}
@@ -30,7 +31,7 @@ pub number_digits : (digits : List ℕ) (r : Option ℕ) → (get_or digits 0 0 
 number_digits digits None lead h = tt
 number_digits digits (Some n) lead h = digits_again digits n h.0 h.1 lead
 
-pub number_few : (digits : List ℕ) (r : Option ℕ) → (get_or digits 0 0 ≡ 48 → length digits ≡ 1) → MatchOption r (is_count_text digits ≡ false) (λ n. (is_count_text digits ≡ true) × (n ≡ digits_value 10 digits)) → IfSome r (λ n. n ≤ 9999999999999999999)
+pub number_few : (digits : List ℕ) (r : Option ℕ) → (get_or digits 0 0 ≡ 48 → length digits ≡ 1) → MatchOption r (is_count_text digits ≡ false) (λ n. (is_count_text digits ≡ true) × (n ≡ digits_value 10 digits)) → IfSome r (λ n. n ≤ HIGHEST_NUMBER)
 number_few digits None lead h = tt
 number_few digits (Some n) lead h = count_bound n (subst (λ (l : List ℕ). is_count_text l ≡ true) (sym (digits_again digits n h.0 h.1 lead)) h.0)
 

@@ -2,6 +2,7 @@
 use Rattle.std.specs.Prelude.{ℕ, ◌≡◌, ◌≤◌, Bool, List, ◌++◌, length, is_some, IfSome}
 use Rattle.rdf_terms.specs.Canon.{canon}
 use Rattle.rdf_terms.specs.declared.limits.TheConstants.{LONGEST_READ}
+use Rattle.tpf_base.specs.declared.limits.TheConstants.{HIGHEST_NUMBER}
 use Rattle.own_controls.specs.Metadata.{Parts, metadata}
 use Rattle.own_controls.specs.Safe.{HasSafeTexts}
 use Rattle.own_controls.specs.Lines.{EndsLine}
@@ -17,8 +18,8 @@ pub record IsOwn (bytes text : List ℕ) (own : OwnControls) : Type 0 where
   pub template : parts.template ≡ own.template.now
   pub next : IfSome own.next (λ next. parts.next ≡ next.now)
   pub count : parts.count ≡ own.count
-  pub few : parts.count ≤ 9999999999999999999
+  pub few : parts.count ≤ HIGHEST_NUMBER
   pub version : parts.version ≡ own.version
-  pub early : parts.version ≤ 9999999999999999999
+  pub early : parts.version ≤ HIGHEST_NUMBER
   pub safe : HasSafeTexts parts
   pub short : length (canon (metadata (is_some own.next) back parts)) ≤ LONGEST_READ

@@ -1,5 +1,6 @@
 // Numbers, as a server writes them.
 ghost use Rattle.std.specs.Prelude.{◌≡◌, ◌≤◌, IfSome, IsTrue, get_or, length};
+ghost use Rattle.tpf_base.specs.declared.limits.TheConstants.{HIGHEST_NUMBER};
 ghost use Rattle.tpf_base.specs.Decimals.{decimal_text};
 
 use page_controls::number_of_digits;
@@ -18,7 +19,7 @@ fn is_plain(digits: &[u8]) -> bool
 /// The number that these digits are written for: at most 19, with no 0 in front.
 pub(crate) fn number(digits: &str) -> Option<u64>
     ensures digits { IfSome result (λ n. decimal_text n ≡ digits.now) }
-    ensures few { IfSome result (λ n. n ≤ 9999999999999999999) }
+    ensures few { IfSome result (λ n. n ≤ HIGHEST_NUMBER) }
 {
     if !is_plain(digits.as_bytes()) {
         return None;

@@ -3,6 +3,7 @@ ghost use Rattle.std.specs.Prelude.{ℕ, ◌≡◌, ◌++◌, ◌≤◌, List, c
 ghost use Rattle.std.specs.List.{list_all};
 ghost use Rattle.std.specs.Char.{is_ascii};
 ghost use Rattle.rdf_terms.specs.Canon.{canon};
+ghost use Rattle.tpf_base.specs.declared.limits.TheConstants.{HIGHEST_NUMBER};
 ghost use Rattle.tpf_base.specs.Addresses.{address_text};
 ghost use Rattle.template_fill.specs.Metadata.{topic_quads, form_quads, count_quads, link_quads, version_quads};
 ghost use Rattle.own_controls.specs.Lines.{graph_end};
@@ -160,7 +161,7 @@ fn count_in<'a>(bytes: &'a [u8], page: &str, ending: &[u8], first: &str) -> Opti
     requires { ending.now ≡ graph_end page.now }
     ensures lines { IfSome result (λ c. bytes.now
         ≡ canon (count_quads (graph_of page.now) page.now first.now c.count) ++ c.rest.now) }
-    ensures few { IfSome result (λ c. c.count ≤ 9999999999999999999) }
+    ensures few { IfSome result (λ c. c.count ≤ HIGHEST_NUMBER) }
 {
     let total = behind_end(bytes)?;
     let text = text_to(behind(behind(behind(total, "<")?, page)?, TOTAL)?, b'"')?;
@@ -206,7 +207,7 @@ fn link_in<'a>(bytes: &'a [u8], page: &str, ending: &[u8], middle: &str) -> Opti
 fn version_in(bytes: &[u8], ending: &[u8], base: &str) -> Option<u64>
     ensures line { (page : List ℕ) → ending.now ≡ graph_end page
         → IfSome result (λ n. bytes.now ≡ canon (version_quads (graph_of page) base.now n)) }
-    ensures early { IfSome result (λ n. n ≤ 9999999999999999999) }
+    ensures early { IfSome result (λ n. n ≤ HIGHEST_NUMBER) }
 {
     let text = text_to(behind(behind(behind(bytes, "<")?, base)?, VERSION)?, b'"')?;
     let version = number(text)?;

@@ -5,7 +5,7 @@
 //!
 //! ```rust
 //! let address = WebAddress::read(alloc, "http://h/d")?;
-//! let quads = read_all(alloc, body.as_bytes(), 262144)?;
+//! let quads = read_all(alloc, body.as_bytes(), LONGEST_READ)?;
 //! let read = read_controls(alloc, quads.as_slice(), &address);
 //! let told = read.ok().ok_or("controls")?.told;
 //! assert_eq!(rt; told.count, 1);

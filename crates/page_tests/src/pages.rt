@@ -6,7 +6,7 @@ use fragment_page::Page;
 use hydra_controls::{Config, MetadataLines};
 use nquads_text::{canonical, read_all};
 use page_controls::read_controls;
-use rdf_terms::{Quad, Slot, Slots, Term, Triple};
+use rdf_terms::{LONGEST_READ, Quad, Slot, Slots, Term, Triple};
 use std::alloc::Global;
 use std::process::Abort;
 use std::test::Fail;
@@ -170,7 +170,7 @@ fn tell_count<R: Abort + AllocGlobal>(
 }
 
 fn tell_of<R: Abort + AllocGlobal>(rt: &R, body: &str, address: &WebAddress) -> Result<(), Fail> {
-    let quads = read_all(rt.alloc(), body.as_bytes(), 262144)?;
+    let quads = read_all(rt.alloc(), body.as_bytes(), LONGEST_READ)?;
     tell_count(rt, address, &quads)
 }
 

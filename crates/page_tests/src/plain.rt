@@ -12,6 +12,7 @@ use std::alloc::Global;
 use std::marker::Brand;
 use std::sync::ledger::{Blank, Ledger};
 use std::test::Fail;
+use template_fill::LARGEST_PAGE;
 use tpf_base::Steps;
 use triple_table::{Choice, Range, Table, served};
 
@@ -85,14 +86,14 @@ fn is_at(table: &Table, range: &Range, i: usize, triple: &Triple) -> bool
         && table.term(ids.object).same(&triple.object)
 }
 
-/// Whether the first page, which may have a thousand triples, shows exactly these.
+/// Whether the first page, which may have `LARGEST_PAGE` triples, shows exactly these.
 fn shows<L: Ledger>(table: &Table, slots: &Slots, triples: &[Triple], blank: Blank) -> bool
     requires name { blank.name ≡ L.name }
     requires parts { blank.parts ≡ L.parts }
     requires some { 0 < blank.parts }
 {
     let mut steps: Steps<L> = Steps::new(blank);
-    let Some(view) = page(table, slots, 1, 1000, &mut steps) else {
+    let Some(view) = page(table, slots, 1, LARGEST_PAGE, &mut steps) else {
         return false;
     };
     let count = table.count(&view.range);

@@ -1,15 +1,17 @@
 // Pages of what rows leave of a fragment, compared with the whole fragment filtered by the rows.
 ghost use Rattle.std.specs.Prelude.{◌≡◌, ◌-◌, ◌<◌, ◌≤◌, length};
+ghost use Rattle.rdf_terms.specs.declared.limits.TheConstants.{MOST_ROWS};
 ghost use Rattle.triple_table.specs.Stored.{IsRange};
 
 use crate::plain::{free, host, quads_of};
 use fragment_pages::page;
-use rdf_terms::{Slot, Slots, Term};
+use rdf_terms::{MOST_ROWS, Slot, Slots, Term};
 use restricted_pages::restricted_page;
 use std::alloc::Global;
 use std::marker::Brand;
 use std::sync::ledger::{Blank, Ledger};
 use std::test::Fail;
+use template_fill::LARGEST_PAGE;
 use tpf_base::Steps;
 use triple_table::{Choice, IdTriple, Range, Table};
 
@@ -67,8 +69,8 @@ fn of_subject(alloc: Global, number: u32) -> Result<Slots, Fail> {
 
 /// The rows of the first so many objects, and behind them those of the first so many subjects.
 fn rows_of(alloc: Global, objects: u32, subjects: u32) -> Result<Vec<Slots>, Fail>
-    requires objects { objects ≤ 64 }
-    requires subjects { subjects ≤ 64 }
+    requires objects { objects ≤ MOST_ROWS }
+    requires subjects { subjects ≤ MOST_ROWS }
 {
     let mut rows = Vec::new(alloc);
     for i in 0..objects {
@@ -118,7 +120,7 @@ fn left_of(
     Ok(left)
 }
 
-/// The triples of all pages of at most a thousand, one page behind the other, and how many pages there are.
+/// The triples of all pages of at most `LARGEST_PAGE`, one page behind the other, and how many pages there are.
 fn all_pages<L: Ledger>(
     alloc: Global,
     table: &Table,
@@ -130,7 +132,7 @@ fn all_pages<L: Ledger>(
 {
     let mut triples = Vec::new(alloc);
     for k in 1..10u64 {
-        let Some(page) = restricted_page(alloc, table, slots, rows, k, 1000, steps)? else {
+        let Some(page) = restricted_page(alloc, table, slots, rows, k, LARGEST_PAGE, steps)? else {
             return Ok((triples, k - 1));
         };
         triples.extend_from_slice(&page.triples)?;
@@ -193,8 +195,9 @@ const LEFT: [(u32, u32, usize, u64); 5] = [
 ];
 
 fn show_all(alloc: Global, table: &Table, slots: &Slots) -> Result<bool, Fail> {
+    let most = MOST_ROWS as u32;
     for (objects, subjects, count, pages) in LEFT {
-        let rows = rows_of(alloc, objects.min(64), subjects.min(64))?;
+        let rows = rows_of(alloc, objects.min(most), subjects.min(most))?;
         if compared(alloc, table, slots, &rows)? != (true, count, pages) {
             return Ok(false);
         }

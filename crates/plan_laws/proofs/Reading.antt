@@ -3,6 +3,7 @@ use Rattle.std.proofs.Common.{ℕ, suc, ◌≡◌, ◌+◌, ◌-◌, ◌/◌, �
 use Rattle.std.specs.List.{AllByRecursion, Contains}
 use Rattle.list_laws.proofs.Members.{at_head, in_tail, all_from, in_flat_map}
 use Rattle.list_laws.proofs.Told.{all_in}
+use Rattle.tpf_base.specs.declared.limits.TheConstants.{HIGHEST_NUMBER}
 use Rattle.tpf_base.specs.Addresses.{Address, IsAddress, address_text, authority_of, target_of, query_text}
 use Rattle.tpf_base.specs.HttpHeads.{head_limit}
 use Rattle.tpf_base.specs.HttpText.{request_text}
@@ -19,7 +20,7 @@ use Rattle.rdf_terms.specs.Selections.{Selection, IsKeptSelection, all_of, selec
 use Rattle.rdf_terms.specs.Valid.{IsValidTriple}
 use Rattle.rdf_terms.proofs.Selected.{selected_length}
 use Rattle.triple_table.specs.Served.{terms_in, terms_of}
-use Rattle.template_fill.specs.declared.limits.TheConstants.{LONGEST_START}
+use Rattle.template_fill.specs.declared.limits.TheConstants.{LARGEST_PAGE, LONGEST_START}
 use Rattle.template_fill.specs.ReadAddress.{path_of, query_of, with_target}
 use Rattle.template_fill.specs.Explicit.{FormsAreShort}
 use Rattle.template_fill.specs.Pages.{places_text, selection_text, page_address}
@@ -52,10 +53,10 @@ use Rattle.plan_laws.proofs.Asked.{target_short}
 
 -- ---- how many pages
 
-pages_few : (count size : ℕ) → size ≤ 1000 → count ≤ 9999999999999999999 → last_page_of count size ≤ 10000000000000000999
+pages_few : (count size : ℕ) → size ≤ LARGEST_PAGE → count ≤ HIGHEST_NUMBER → last_page_of count size ≤ HIGHEST_NUMBER + LARGEST_PAGE
 pages_few count size small few = within ((count + (size - 1)) / size) (div-le_self (count + (size - 1)) size)
   where
-    within : (n : ℕ) → n ≤ count + (size - 1) → max 1 n ≤ 10000000000000000999
+    within : (n : ℕ) → n ≤ count + (size - 1) → max 1 n ≤ HIGHEST_NUMBER + LARGEST_PAGE
     within n h = omega (arith, h, small, few)
 
 -- ---- requests
@@ -201,7 +202,7 @@ module _ (forms : FormsAreShort) (given : PagesAreGiven) (answered : AnsweredGiv
   abbrev triples : List Triple
   triples = version_of history version
 
-  few_selected : (u : Selection) → length (selected triples u) ≤ 9999999999999999999
+  few_selected : (u : Selection) → length (selected triples u) ≤ HIGHEST_NUMBER
   few_selected u = omega (arith, selected_length triples u, s.triples.few)
 
   quads_fit : (u : Selection) (k : ℕ) → IsShort u → k ≤ selected_last triples u config.page_size → AreFitting (page_quads history version config u k)
@@ -224,7 +225,7 @@ module _ (forms : FormsAreShort) (given : PagesAreGiven) (answered : AnsweredGiv
       → length (authority_of address) + length (target_of address) ≤ 4194000 → IsRead history mark config address
   read_of address u k g h same short =
       let page = there history version config u k s.is_history s.is_config in
-      let most : version ≤ 9999999999999999999 = omega (arith, s.version.high, s.is_history.high) in
+      let most : version ≤ HIGHEST_NUMBER = omega (arith, s.version.high, s.is_history.high) in
       record {
         short = request_fits address short;
         answered = (answered history mark config address).1 u k g;

@@ -1,6 +1,7 @@
 -- Plans whose addresses are answered with pages that are read (Triple Pattern Fragments; Verborgh et al.).
 use Rattle.std.specs.Prelude.{ℕ, ◌≡◌, ◌+◌, ◌≤◌, true, List, length, replicate, None, ⊤}
 use Rattle.std.specs.List.{AllByRecursion, Contains}
+use Rattle.tpf_base.specs.declared.limits.TheConstants.{HIGHEST_NUMBER}
 use Rattle.tpf_base.specs.Addresses.{Address, address_text, authority_of, target_of}
 use Rattle.tpf_base.specs.HttpHeads.{head_limit}
 use Rattle.tpf_base.specs.Marks.{Mark, version_at}
@@ -35,10 +36,10 @@ pub record IsRead (history : List (List Triple)) (mark : Mark) (config : Config)
 
 -- ---- limits
 
--- each term has a canonical text of at most LONGEST_TERM bytes, and the number of the triples has at most 19 digits
+-- each term has a canonical text of at most LONGEST_TERM bytes, and there are at most HIGHEST_NUMBER triples
 pub record AreServable (triples : List Triple) : Type 0 where
   pub terms : (term : Term) → Contains (terms_of triples) term → length (canonical_term term) ≤ LONGEST_TERM
-  pub few : length triples ≤ 9999999999999999999
+  pub few : length triples ≤ HIGHEST_NUMBER
 
 -- a fixed part has texts of at most 60 bytes more than LONGEST_TERM, as in each query that is read
 abbrev pub IsAskablePart : Part → Type 0

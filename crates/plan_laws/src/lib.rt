@@ -33,8 +33,8 @@ use template_fill::{
 /// addresses that stand in its metadata are short enough. It holds row by row and in blocks of at
 /// most `MOST_ROWS` rows (64), whether the server reads the rows of an address or passes them over.
 /// So it does for its own base (`base`), and for each other address of its authority that it
-/// answers so at all (`start`). The number of triples has at most 19 digits, and the base and the
-/// start at most `LONGEST_START` bytes (65536).
+/// answers so at all (`start`). There are at most `HIGHEST_NUMBER` triples (of 19 digits), and the base and the
+/// start have at most `LONGEST_START` bytes (65536).
 pub fn plans_are_read()
     ensures plan { PlansAreRead }
     ensures base { BasesAreRead }

@@ -4,7 +4,9 @@ use Rattle.std.specs.List.{AllByRecursion, list_all}
 use Rattle.rdf_terms.specs.declared.term.Triple.{Triple}
 use Rattle.rdf_terms.specs.Triples.{IsDataSet}
 use Rattle.rdf_terms.specs.Valid.{IsValidTriple}
+use Rattle.tpf_base.specs.declared.limits.TheConstants.{HIGHEST_NUMBER}
 use Rattle.tpf_base.specs.Addresses.{Address, IsAddress, address_text, is_path_byte}
+use Rattle.template_fill.specs.declared.limits.TheConstants.{LARGEST_PAGE}
 use Rattle.template_fill.specs.Metadata.{Config}
 use Rattle.template_fill.specs.Bodies.{version_of}
 
@@ -22,12 +24,13 @@ abbrev pub HasReloadPath : Address → Option (List ℕ) → Type 0
 HasReloadPath base None = Unit {0}
 HasReloadPath base (Some path) = is_reload_path base path ≡ true
 
--- the base is an address without a query part, a page has 1 to 1000 triples, and a reload is asked for on another path
+-- the base is an address without a query part, a page has 1 to LARGEST_PAGE (1000) triples, and a reload is asked for on
+-- another path
 pub record IsConfig (config : Config) : Type 0 where
   pub base : IsAddress (address_text config.base) config.base
   pub no_query : config.base.query ≡ None
   pub low : 1 ≤ config.page_size
-  pub high : config.page_size ≤ 1000
+  pub high : config.page_size ≤ LARGEST_PAGE
   pub reload : HasReloadPath config.base config.reload
 
 -- with the path of a reload
@@ -43,15 +46,11 @@ pub record IsValidDataSet (triples : List Triple) : Type 0 where
   pub data_set : IsDataSet triples
   pub terms : AllByRecursion IsValidTriple triples
 
--- the most versions of one server: the largest number of 19 digits
-abbrev pub most_versions : ℕ
-most_versions = 9999999999999999999
-
--- such data sets, one or more; a number of 19 digits can name each of their versions
+-- such data sets, one or more; the version of each is at most HIGHEST_NUMBER, so 19 digits can name it
 pub record IsHistory (history : List (List Triple)) : Type 0 where
   pub data_sets : AllByRecursion IsValidDataSet history
   pub low : 1 ≤ length history
-  pub high : length history ≤ most_versions
+  pub high : length history ≤ HIGHEST_NUMBER
 
 -- this history of a server, whose last data set is served
 pub record IsHistoryTo (history : List (List Triple)) (version : ℕ) (triples : List Triple) : Type 0 where

@@ -2,11 +2,8 @@
 use case_rows::{Case, CaseFault, debug_text, text_of_bytes};
 use nquads_text::{TextFault, read_all, write_quad};
 use quad_feed::QuadFeed;
-use rdf_terms::Quad;
+use rdf_terms::{LONGEST_TERM, Quad};
 use std::alloc::Global;
-
-/// The longest canonical text of a term, where a row has no other.
-const LONGEST: u64 = 262144;
 
 /// Whether a copy is the same as the value.
 fn is_same<T: PartialEq + Drop>(copy: T, value: &T) -> bool {
@@ -149,9 +146,10 @@ fn agreed(
 }
 
 /// `text`, `longest`, `by`: the canonical lines of a text, or its fault. It is the same over every cut in two and byte
-/// by byte; with `by`, in pieces of this length alone. Canonical lines read as themselves.
+/// by byte; with `by`, in pieces of this length alone. Canonical lines read as themselves. Without `longest`, terms may
+/// have `LONGEST_TERM` bytes.
 pub fn nquads(alloc: Global, case: &mut Case<'_>) -> Result<String, CaseFault> {
-    let longest = case.number_if("longest")?.unwrap_or(LONGEST);
+    let longest = case.number_if("longest")?.unwrap_or(LONGEST_TERM as u64);
     let by = case.number_if("by")?;
     let text = case.bytes(alloc, "text")?;
     agreed(alloc, text.as_slice(), longest as usize, by)
@@ -185,7 +183,7 @@ fn answers_text(
 
 /// What is answered to each piece that is fed, and then at the end.
 fn fed(alloc: Global, pieces: &[Vec<u8>]) -> Result<String, CaseFault> {
-    let mut feed = QuadFeed::new(alloc, LONGEST as usize);
+    let mut feed = QuadFeed::new(alloc, LONGEST_TERM);
     let mut out = answers_text(alloc, &mut feed, pieces)?;
     let end = outcome(alloc, feed.finish())?;
     out.push_str(end.as_str())?;
