@@ -61,9 +61,6 @@ bind-some (Name n) t row new e = put-some (slice_get row n) n t row new refl e
 
 -- ---- the whole pattern
 
-Keeps : Places → Places → Type 0
-Keeps row new = (k : ℕ) (u : Term) → slice_get row k ≡ Some (Some u) → slice_get new k ≡ Some (Some u)
-
 extended_some : (o : Option Places) (f : Places → Option Places) (y : Places) → extended o f ≡ Some y → (x : Places) × (o ≡ Some x) × (f x ≡ Some y)
 extended_some None f y e = cc
 extended_some (Some x) f y e = (x, refl, e)

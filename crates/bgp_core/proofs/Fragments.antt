@@ -13,7 +13,7 @@ use Rattle.rdf_terms.proofs.Equality.{term_self}
 use Rattle.bgp_core.specs.declared.pattern.Part.{Part}
 use Rattle.bgp_core.specs.declared.pattern.Part.TheVariants.{Fixed, Name}
 use Rattle.bgp_core.specs.declared.pattern.Pattern.{Pattern}
-use Rattle.bgp_core.specs.Solutions.{Places, joined, term_at, extension, rows_from}
+use Rattle.bgp_core.specs.Solutions.{Places, joined, extension, rows_from}
 use Rattle.bgp_core.specs.Instances.{slot_of, slot, instance}
 use Rattle.bgp_core.specs.Extends.{Becomes}
 use Rattle.bgp_core.proofs.Extending.{extension-some}

@@ -8,5 +8,4 @@ pub mod Swaps
 pub mod Patterns
 pub mod Places
 pub mod Fragments
-pub mod Kept
 pub mod Merging

@@ -2,7 +2,7 @@
 use Rattle.std.proofs.Common.{ℕ, zero, suc, ◌≡◌, ◌<◌, ◌≤◌, ◌+◌, ◌⊎◌, inl, inr, nat_eq, Bool, true, false, if◌then◌else◌, List, [], ◌∷◌, ◌++◌, length, Option, Some, None, get_or, refl, ap, sym, subst, ◌∙◌, arith}
 use Rattle.std.specs.Prelude.{nat_lt, ◌↔◌}
 use Rattle.std.specs.List.{Contains}
-use Rattle.std.proofs.lemmas.Bool.{and_from, and_parts, cases_lt, cases_Bool, true≢false}
+use Rattle.std.proofs.lemmas.Bool.{and_from, and_parts, cases_lt, true≢false}
 use Rattle.list_laws.proofs.Options.{none_not_some, some_not_none, some_same}
 use Rattle.list_laws.proofs.Lists.{cons_same}
 use Rattle.list_laws.proofs.Members.{at_head, in_tail, head_or_tail, none_in, one_of, contains_one, in_flat_map, from_flat_map}

@@ -1,6 +1,5 @@
 -- The solutions of patterns in another order are the same in another order.
 use Rattle.std.proofs.Common.{ℕ, zero, suc, ◌≡◌, ◌⊎◌, inl, inr, Bool, true, false, if◌then◌else◌, List, [], ◌∷◌, Option, Some, None, slice_get, slice_set, refl, ap, sym, subst, ◌∙◌}
-use Rattle.std.proofs.Math.ListN.{set}
 use Rattle.std.proofs.lemmas.Bool.{cases_eq}
 use Rattle.rdf_terms.specs.Same.{term_eq}
 use Rattle.rdf_terms.specs.declared.term.Term.{Term}
@@ -13,9 +12,6 @@ use Rattle.bgp_core.specs.Solutions.{Places, put, bind, extended, extension}
 use Rattle.bgp_core.proofs.Extending.{get-set, get-set_other}
 
 -- ---- steps that may be taken in either order
-
-Step : Type 0
-Step = Places → Option Places
 
 extended-assoc : (o : Option Places) (f g : Places → Option Places) → extended (extended o f) g ≡ extended o (λ r. extended (f r) g)
 extended-assoc None f g = refl

@@ -1,6 +1,5 @@
 -- Queries as contracts see them.
 use Rattle.std.specs.Prelude.{ℕ, ◌<◌, List, ⊤}
-use Rattle.rdf_terms.specs.declared.term.Term.{Term}
 use Rattle.rdf_terms.specs.Valid.{IsValidTerm, IsNotBlank}
 use Rattle.bgp_core.specs.declared.pattern.Part.{Part}
 use Rattle.bgp_core.specs.declared.pattern.Part.TheVariants.{Fixed, Name}
