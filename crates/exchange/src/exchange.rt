@@ -21,7 +21,7 @@ use template_fill::WebAddress;
 use tpf_base::{Dial, Fault, Halt, OutOfMemory, send_rest};
 
 /// A request has at most so many bytes beside its address, so it is made in one place.
-const FIELDS: usize = 64;
+const BESIDE: usize = 64;
 
 /// Where an exchange stands.
 #[derive(Clone, Copy, Debug, PartialEq, Eq)]
@@ -88,7 +88,7 @@ impl Exchange {
     ) -> Result<Exchange, OutOfMemory>
         ensures { IfOk result (λ e. e ≡ starting address limit link) }
     {
-        let most = address.text().len().saturating_add(FIELDS);
+        let most = address.text().len().saturating_add(BESIDE);
         let mut request = Vec::with_capacity(alloc, most)?;
         write_request(address.authority(), address.target(), &mut request)?;
         Ok(Exchange {

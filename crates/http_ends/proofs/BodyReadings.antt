@@ -2,8 +2,9 @@
 use Rattle.std.proofs.Common.{append-nil, ◌≡◌, ℕ, zero, suc, ◌+◌, ◌-◌, ◌<◌, ◌≤◌, Bool, true, false, List, [], ◌∷◌, ◌++◌, length, refl, sym, ap, ap₂, subst, if◌then◌else◌, ◌∙◌, arith, append_assoc, length-append, inl, inr}
 use Rattle.std.specs.Prelude.{◌⊎◌, nat_le, nat_lt}
 use Rattle.std.proofs.lemmas.Bool.Decides.{nat_tests}
+use Rattle.tpf_base.specs.declared.limits.TheConstants.{HEADS_LIMIT, MOST_FIELDS}
 use Rattle.tpf_base.specs.HttpHeads.{ends_empty, field_lines}
-use Rattle.tpf_base.specs.HttpReply.{Place, InHeads, InSized, Finished, Failed, Gathered, with_byte, Reading, More, Whole, Bad, TooLong, BadHead, one_more, at_the_end, is_open, after_byte, after_bytes, after_head_byte, reading_from, reply_of, begun, heads_limit, head_place, response_head}
+use Rattle.tpf_base.specs.HttpReply.{Place, InHeads, InSized, Finished, Failed, Gathered, with_byte, Reading, More, Whole, Bad, TooLong, BadHead, one_more, at_the_end, is_open, after_byte, after_bytes, after_head_byte, reading_from, reply_of, begun, head_place, response_head}
 use Rattle.http_wire.specs.Replies.{longer}
 use Rattle.http_wire.specs.Places.{judged_place}
 use Rattle.http_wire.proofs.RunLemmas.{over_reading, open_reading, reading_append}
@@ -47,7 +48,7 @@ sized_part limit wanted g (b ∷ part) at_end some =
 unended : (limit : ℕ) (head : List ℕ) → ends_empty head (length head) ≡ false → length head < 65536 → after_head_byte limit 0 head ≡ InHeads 0 head
 unfolding after_head_byte
 unended limit head early short =
-    ap (λ (v : Bool). if v then (if nat_lt 64 (field_lines head) then Failed BadHead else head_place limit (0 + length head) (response_head head)) else (if nat_le heads_limit (0 + length head) then Failed TooLong else InHeads 0 head)) early
+    ap (λ (v : Bool). if v then (if nat_lt MOST_FIELDS (field_lines head) then Failed BadHead else head_place limit (0 + length head) (response_head head)) else (if nat_le HEADS_LIMIT (0 + length head) then Failed TooLong else InHeads 0 head)) early
     ∙ ap (λ (v : Bool). if v then Failed TooLong else InHeads 0 head) (below (length head) short)
   where
     below : (n : ℕ) → n < 65536 → nat_le 65536 (0 + n) ≡ false
@@ -56,7 +57,7 @@ unended limit head early short =
 ended : (limit : ℕ) (head : List ℕ) → ends_empty head (length head) ≡ true → after_head_byte limit 0 head ≡ judged_place limit (0 + length head) head
 unfolding after_head_byte judged_place
 ended limit head whole =
-    ap (λ (v : Bool). if v then (if nat_lt 64 (field_lines head) then Failed BadHead else head_place limit (0 + length head) (response_head head)) else (if nat_le heads_limit (0 + length head) then Failed TooLong else InHeads 0 head)) whole
+    ap (λ (v : Bool). if v then (if nat_lt MOST_FIELDS (field_lines head) then Failed BadHead else head_place limit (0 + length head) (response_head head)) else (if nat_le HEADS_LIMIT (0 + length head) then Failed TooLong else InHeads 0 head)) whole
 
 -- a proper front of a head is held, as far as the limit of heads goes
 heads_go : (limit : ℕ) (text : List ℕ) → EndsOnce text → (seen xs rest : List ℕ) → text ≡ (seen ++ xs) ++ rest → 0 < length rest → length (seen ++ xs) < 65536
@@ -129,7 +130,7 @@ split_at (suc k) (b ∷ text) h =
 past : (limit : ℕ) (head : List ℕ) → ends_empty head (length head) ≡ false → length head ≡ 65536 → after_head_byte limit 0 head ≡ Failed TooLong
 unfolding after_head_byte
 past limit head early long =
-    ap (λ (v : Bool). if v then (if nat_lt 64 (field_lines head) then Failed BadHead else head_place limit (0 + length head) (response_head head)) else (if nat_le heads_limit (0 + length head) then Failed TooLong else InHeads 0 head)) early
+    ap (λ (v : Bool). if v then (if nat_lt MOST_FIELDS (field_lines head) then Failed BadHead else head_place limit (0 + length head) (response_head head)) else (if nat_le HEADS_LIMIT (0 + length head) then Failed TooLong else InHeads 0 head)) early
     ∙ ap (λ (v : Bool). if v then Failed TooLong else InHeads 0 head) (full (length head) long)
   where
     full : (n : ℕ) → n ≡ 65536 → nat_le 65536 (0 + n) ≡ true

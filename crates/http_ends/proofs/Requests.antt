@@ -9,6 +9,7 @@ use Rattle.httparse.specs.Grammar.{crlf, Field, IsField, is_token_byte, is_value
 use Rattle.httparse.proofs.GrammarLemmas.{print_request-append}
 use Rattle.httparse.proofs.PieceLemmas.{print_field-append}
 use Rattle.tpf_base.specs.Addresses.{authority_of, target_of}
+use Rattle.tpf_base.specs.declared.limits.TheConstants.{MOST_FIELDS}
 use Rattle.tpf_base.specs.HttpText.{request_text}
 use Rattle.tpf_base.specs.HttpReader.{read_request}
 use Rattle.tpf_base.specs.HttpHeads.{Accepted, Rejected, Verdict, Incomplete, Taken, next_request, with_length, judged, judged_head, taken_whole, field_lines, blank_length, is_target, are_visible, begins_with, origin_form, has_word, is_word}
@@ -147,7 +148,7 @@ request_judged authority after a t visible =
     let lines : field_lines (request_text authority (47 ∷ after)) ≡ 2 = ap (λ (n : ℕ). n - 2) (lines_two authority (47 ∷ after) (plain authority a) (plain (47 ∷ after) t)) in
     let read : taken_whole (read_request (request_text authority (47 ∷ after))) ≡ Some (head_for authority (47 ∷ after)) =
     reads_whole (head_for authority (47 ∷ after)) (request_text authority (47 ∷ after)) (blank_none authority (47 ∷ after)) (head_parts authority after a t, head_text authority (47 ∷ after)) in
-    ap (λ (n : ℕ). if nat_lt 64 n then Rejected 431 else judged_head (taken_whole (read_request (request_text authority (47 ∷ after))))) lines
+    ap (λ (n : ℕ). if nat_lt MOST_FIELDS n then Rejected 431 else judged_head (taken_whole (read_request (request_text authority (47 ∷ after))))) lines
     ∙ ap judged_head read ∙ accepted authority after (every after) visible
 
 request_next : (authority after : List ℕ) → list_all is_seen authority ≡ true → list_all is_seen (47 ∷ after) ≡ true → are_visible (47 ∷ after) ≡ true

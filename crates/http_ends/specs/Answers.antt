@@ -2,7 +2,8 @@
 use Rattle.std.specs.Prelude.{ℕ, ◌≡◌, ◌≢◌, ◌≤◌, ◌<◌, ◌+◌, ◌^◌, ◌⊎◌, Bool, not, true, false, List, ◌++◌, length}
 use Rattle.rdf_terms.specs.declared.term.Triple.{Triple}
 use Rattle.tpf_base.specs.HttpHeads.{Request}
-use Rattle.tpf_base.specs.HttpReply.{ReplyFault, More, Whole, Bad, TooLong, BadStatus, BadMediaType, heads_limit, reply_of}
+use Rattle.tpf_base.specs.declared.limits.TheConstants.{HEADS_LIMIT}
+use Rattle.tpf_base.specs.HttpReply.{ReplyFault, More, Whole, Bad, TooLong, BadStatus, BadMediaType, reply_of}
 use Rattle.template_fill.specs.Metadata.{Config}
 use Rattle.template_fill.specs.HttpAnswer.{Answer, MediaType, NQuads, PlainText, answer_text, head_text}
 use Rattle.tpf_base.specs.Marks.{Mark}
@@ -24,20 +25,20 @@ pub record AnswerIsRead (limit : ℕ) (answer : Answer) (closes : Bool) : Type 0
   pub other : answer.status ≢ 200 → (more : List ℕ) (at_end : Bool)
       → reply_of (head_text answer.status answer.media_type (length answer.body) closes ++ more) at_end limit ≡ Bad (BadStatus answer.status)
   -- text with status 200, as a server says that its data were read again
-  pub text : answer.status ≡ 200 → answer.media_type ≡ PlainText → length (head_text answer.status answer.media_type (length answer.body) closes) ≤ heads_limit → (more : List ℕ) (at_end : Bool)
+  pub text : answer.status ≡ 200 → answer.media_type ≡ PlainText → length (head_text answer.status answer.media_type (length answer.body) closes) ≤ HEADS_LIMIT → (more : List ℕ) (at_end : Bool)
       → reply_of (head_text answer.status answer.media_type (length answer.body) closes ++ more) at_end limit ≡ Bad BadMediaType
   -- a proper front of its head, within the limit of heads
-  pub begun : (front rest : List ℕ) (at_end : Bool) → head_text answer.status answer.media_type (length answer.body) closes ≡ front ++ rest → 0 < length rest → length front < heads_limit → reply_of front at_end limit ≡ More
+  pub begun : (front rest : List ℕ) (at_end : Bool) → head_text answer.status answer.media_type (length answer.body) closes ≡ front ++ rest → 0 < length rest → length front < HEADS_LIMIT → reply_of front at_end limit ≡ More
 
 -- every answer whose head is within the limit of heads
 abbrev pub AnswersAreRead : Type 0
 AnswersAreRead =
-    (limit : ℕ) (answer : Answer) (closes : Bool) → IsStatus answer.status → length (head_text answer.status answer.media_type (length answer.body) closes) ≤ heads_limit → AnswerIsRead limit answer closes
+    (limit : ℕ) (answer : Answer) (closes : Bool) → IsStatus answer.status → length (head_text answer.status answer.media_type (length answer.body) closes) ≤ HEADS_LIMIT → AnswerIsRead limit answer closes
 
 -- a head past that limit is refused
 abbrev pub LongHeadsAreRefused : Type 0
 LongHeadsAreRefused =
-    (limit status : ℕ) (media_type : MediaType) (n : ℕ) (closes : Bool) → IsStatus status → heads_limit < length (head_text status media_type n closes) → (more : List ℕ) (at_end : Bool) → reply_of (head_text status media_type n closes ++ more) at_end limit ≡ Bad TooLong
+    (limit status : ℕ) (media_type : MediaType) (n : ℕ) (closes : Bool) → IsStatus status → HEADS_LIMIT < length (head_text status media_type n closes) → (more : List ℕ) (at_end : Bool) → reply_of (head_text status media_type n closes ++ more) at_end limit ≡ Bad TooLong
 
 -- a head has at most 200 bytes beside the digits of its body's length
 abbrev pub HeadsAreShort : Type 0

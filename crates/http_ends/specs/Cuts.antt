@@ -2,7 +2,8 @@
 use Rattle.std.specs.Prelude.{ℕ, ◌≡◌, ◌≤◌, ◌<◌, ◌+◌, Bool, false, List, [], ◌∷◌, ◌++◌, map, length}
 use Rattle.std.specs.List.{flat_map, AllByRecursion, AllZip}
 use Rattle.tpf_base.specs.Addresses.{Address, IsAddress}
-use Rattle.tpf_base.specs.HttpHeads.{Request, Verdict, Accepted, Taken, next_request, head_limit}
+use Rattle.tpf_base.specs.declared.limits.TheConstants.{HEAD_LIMIT}
+use Rattle.tpf_base.specs.HttpHeads.{Request, Verdict, Accepted, Taken, next_request}
 use Rattle.tpf_base.specs.HttpReply.{Whole, reply_of}
 use Rattle.template_fill.specs.HttpAnswer.{NQuads, answer_text}
 use Rattle.tpf_base.specs.Marks.{Mark}
@@ -33,7 +34,7 @@ sent_for address = record { bytes = request_for address; request = asks address 
 
 -- the request for an address is sent so
 abbrev pub RequestIsSent : Type 0
-RequestIsSent = (text : List ℕ) (address : Address) → IsAddress text address → length (request_for address) ≤ head_limit → IsSent (sent_for address)
+RequestIsSent = (text : List ℕ) (address : Address) → IsAddress text address → length (request_for address) ≤ HEAD_LIMIT → IsSent (sent_for address)
 
 -- ---- what is owed
 
@@ -68,7 +69,7 @@ pub record IsNotOwed (server : Answering) (part : List ℕ) : Type 0 where
 abbrev pub PartsAreNotOwed : Type 0
 PartsAreNotOwed =
     (server : Answering) (text : List ℕ) (address : Address) (part more : List ℕ)
-    → IsAddress text address → length (request_for address) ≤ head_limit → request_for address ≡ part ++ more → 0 < length more → IsNotOwed server part
+    → IsAddress text address → length (request_for address) ≤ HEAD_LIMIT → request_for address ≡ part ++ more → 0 < length more → IsNotOwed server part
 
 -- ---- what was received
 

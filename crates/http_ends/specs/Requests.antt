@@ -2,7 +2,8 @@
 use Rattle.std.specs.Prelude.{ℕ, ◌≡◌, ◌≤◌, ◌<◌, ◌-◌, false, true, Bool, not, ◌==◌, ◌&&◌, if◌then◌else◌, List, [], ◌∷◌, ◌++◌, length, map, drop, codes, bytes_eq}
 use Rattle.std.specs.List.{flat_map, list_all, AllByRecursion}
 use Rattle.tpf_base.specs.Addresses.{Address, IsAddress, authority_of, target_of}
-use Rattle.tpf_base.specs.HttpHeads.{Request, Incomplete, Taken, next_request, head_limit, ends_empty}
+use Rattle.tpf_base.specs.declared.limits.TheConstants.{HEAD_LIMIT}
+use Rattle.tpf_base.specs.HttpHeads.{Request, Incomplete, Taken, next_request, ends_empty}
 use Rattle.tpf_base.specs.HttpText.{request_text}
 
 -- the request for an address
@@ -21,7 +22,7 @@ pub record IsReadWhole (address : Address) : Type 0 where
   pub part : (n : ℕ) (more : List ℕ) → n < length (request_for address) → ends_empty (request_for address ++ more) n ≡ false
 
 abbrev pub RequestIsRead : Type 0
-RequestIsRead = (text : List ℕ) (address : Address) → IsAddress text address → length (request_for address) ≤ head_limit → IsReadWhole address
+RequestIsRead = (text : List ℕ) (address : Address) → IsAddress text address → length (request_for address) ≤ HEAD_LIMIT → IsReadWhole address
 
 -- ---- one way to cut
 

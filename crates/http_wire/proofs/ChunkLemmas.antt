@@ -10,6 +10,7 @@ use Rattle.std.proofs.lemmas.Str.Parse.{digits_value-take-le}
 use Rattle.std.proofs.Math.Nat.{pow-le-pow_right}
 use Rattle.std.proofs.Common.{lit<}
 use Rattle.httparse.specs.Grammar.{skip_ows}
+use Rattle.tpf_base.specs.declared.limits.TheConstants.{MOST_CHUNK_DIGITS}
 use Rattle.tpf_base.specs.HttpReader.{split_run}
 use Rattle.tpf_base.specs.HttpReply.{chunk_size, size_of_run, is_line_rest}
 use Rattle.list_laws.proofs.Lists.{front_of}
@@ -88,17 +89,17 @@ run_front test text rest is =
 
 -- the size of a line with these parts
 pub size_is : (line digits rest : List ℕ) (v : Bool) → digits ≡ (split_run is_ascii_hexdigit line).0 → rest ≡ (split_run is_ascii_hexdigit line).1
-    → (nat_lt 0 (length digits) && (nat_le (length digits) 15 && is_line_rest (skip_ows rest))) ≡ v → chunk_size line ≡ (if v then Some (digits_value 16 digits) else None)
+    → (nat_lt 0 (length digits) && (nat_le (length digits) MOST_CHUNK_DIGITS && is_line_rest (skip_ows rest))) ≡ v → chunk_size line ≡ (if v then Some (digits_value 16 digits) else None)
 unfolding chunk_size
 size_is line digits rest v front behind e =
     ap₂ (λ (d r : List ℕ). size_of_run (d, r)) (sym front) (sym behind) ∙ ap (λ (b : Bool). if b then Some (digits_value 16 digits) else None) e
 
-few_digits : (n : ℕ) (b : Bool) → (nat_lt 0 n && (nat_le n 15 && b)) ≡ true → n ≤ 15
+few_digits : (n : ℕ) (b : Bool) → (nat_lt 0 n && (nat_le n MOST_CHUNK_DIGITS && b)) ≡ true → n ≤ 15
 few_digits n b e = at_most n (and_first _ _ (and_second _ _ e))
   where
     at_most : (n : ℕ) → nat_le n 15 ≡ true → n ≤ 15
     at_most n h = grind (arith, common_steps)
 
-pub parts_fit : (line digits rest : List ℕ) → digits ≡ (split_run is_ascii_hexdigit line).0 → (nat_lt 0 (length digits) && (nat_le (length digits) 15 && is_line_rest (skip_ows rest))) ≡ true
+pub parts_fit : (line digits rest : List ℕ) → digits ≡ (split_run is_ascii_hexdigit line).0 → (nat_lt 0 (length digits) && (nat_le (length digits) MOST_CHUNK_DIGITS && is_line_rest (skip_ows rest))) ≡ true
     → digits_value 16 digits < 2 ^ 60
 parts_fit line digits rest front fit = hex_fits digits (run_all line digits front) (few_digits (length digits) _ fit)

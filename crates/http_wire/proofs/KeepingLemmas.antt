@@ -3,8 +3,9 @@ use Rattle.std.proofs.Common.{◌≡◌, ℕ, ◌+◌, ◌-◌, ◌==◌, Bool, 
 use Rattle.std.specs.Prelude.{◌&&◌, nat_le, nat_lt, codes}
 use Rattle.std.specs.List.{list_any}
 use Rattle.httparse.specs.Grammar.{ResponseHead, status_code}
+use Rattle.tpf_base.specs.declared.limits.TheConstants.{HEADS_LIMIT, LINE_LIMIT, MOST_FIELDS}
 use Rattle.tpf_base.specs.HttpHeads.{ends_empty, field_lines, says_close, pairs_of, values_of}
-use Rattle.tpf_base.specs.HttpReply.{ReplyFault, BadHead, BadStatus, BadMediaType, BadCoding, BadFraming, TooLong, gathering, is_nquads, is_coding, is_interim, heads_limit, line_limit, Place, InHeads, InSized, InUnsized, InLine, InChunk, AtReturn, AtNewline, InTrailer, Finished, Failed, Gathered, with_byte, with_extra, HeadRead, IsRefused, Framing, Sized, Chunked, ToClose, framing_read, framing_of, keeps_open, final_head, body_place, head_place, response_head, after_head_byte, after_line_byte, after_trailer_byte, line_place, chunk_size, is_over, is_padded, unless, begun, after_byte, after_bytes}
+use Rattle.tpf_base.specs.HttpReply.{ReplyFault, BadHead, BadStatus, BadMediaType, BadCoding, BadFraming, TooLong, gathering, is_nquads, is_coding, is_interim, Place, InHeads, InSized, InUnsized, InLine, InChunk, AtReturn, AtNewline, InTrailer, Finished, Failed, Gathered, with_byte, with_extra, HeadRead, IsRefused, Framing, Sized, Chunked, ToClose, framing_read, framing_of, keeps_open, final_head, body_place, head_place, response_head, after_head_byte, after_line_byte, after_trailer_byte, line_place, chunk_size, is_over, is_padded, unless, begun, after_byte, after_bytes}
 
 -- a body that runs to the close is gathered for a reply that does not keep its link
 unfoldable pub KeepsNothing : Place → Type 0
@@ -106,16 +107,16 @@ module _ (limit : ℕ) where
   unfolding head_place
   behind_head passed None = failed BadHead
   behind_head passed (Some h) =
-      nothing_if (is_interim h) (if nat_le heads_limit passed then Failed TooLong else InHeads passed []) (body_place limit (final_head h))
-      (nothing_if (nat_le heads_limit passed) (Failed TooLong) (InHeads passed []) (failed TooLong) (in_heads passed [])) (final h)
+      nothing_if (is_interim h) (if nat_le HEADS_LIMIT passed then Failed TooLong else InHeads passed []) (body_place limit (final_head h))
+      (nothing_if (nat_le HEADS_LIMIT passed) (Failed TooLong) (InHeads passed []) (failed TooLong) (in_heads passed [])) (final h)
 
   head_byte : (passed : ℕ) (head : List ℕ) → KeepsNothing (after_head_byte limit passed head)
   unfolding after_head_byte
   head_byte passed head =
-      nothing_if (ends_empty head (length head)) (if nat_lt 64 (field_lines head) then Failed BadHead else head_place limit (passed + length head) (response_head head))
-      (if nat_le heads_limit (passed + length head) then Failed TooLong else InHeads passed head)
-      (nothing_if (nat_lt 64 (field_lines head)) (Failed BadHead) (head_place limit (passed + length head) (response_head head)) (failed BadHead) (behind_head (passed + length head) (response_head head)))
-      (nothing_if (nat_le heads_limit (passed + length head)) (Failed TooLong) (InHeads passed head) (failed TooLong) (in_heads passed head))
+      nothing_if (ends_empty head (length head)) (if nat_lt MOST_FIELDS (field_lines head) then Failed BadHead else head_place limit (passed + length head) (response_head head))
+      (if nat_le HEADS_LIMIT (passed + length head) then Failed TooLong else InHeads passed head)
+      (nothing_if (nat_lt MOST_FIELDS (field_lines head)) (Failed BadHead) (head_place limit (passed + length head) (response_head head)) (failed BadHead) (behind_head (passed + length head) (response_head head)))
+      (nothing_if (nat_le HEADS_LIMIT (passed + length head)) (Failed TooLong) (InHeads passed head) (failed TooLong) (in_heads passed head))
 
   sized : (g : Gathered) (o : Option ℕ) → KeepsNothing (line_place g o)
   unfolding line_place
@@ -125,13 +126,13 @@ module _ (limit : ℕ) where
   line_byte : (line : List ℕ) (b : ℕ) (g : Gathered) → KeepsNothing (after_line_byte line b g)
   unfolding after_line_byte
   line_byte line b g =
-      nothing_if (nat_lt line_limit (length line)) (Failed BadFraming) (if b == 10 then line_place g (chunk_size line) else unless (is_padded g) (InLine line g)) (failed BadFraming)
+      nothing_if (nat_lt LINE_LIMIT (length line)) (Failed BadFraming) (if b == 10 then line_place g (chunk_size line) else unless (is_padded g) (InLine line g)) (failed BadFraming)
       (nothing_if (b == 10) (line_place g (chunk_size line)) (unless (is_padded g) (InLine line g)) (sized g (chunk_size line)) (unless_nothing (is_padded g) (InLine line g) (in_line line g)))
 
   trailer_byte : (lines : List ℕ) (g : Gathered) → KeepsNothing (after_trailer_byte lines g)
   unfolding after_trailer_byte
   trailer_byte lines g =
-      nothing_if (nat_lt heads_limit (length lines)) (Failed TooLong) (if ends_empty (10 ∷ lines) (length lines + 1) then Finished g else InTrailer lines g) (failed TooLong)
+      nothing_if (nat_lt HEADS_LIMIT (length lines)) (Failed TooLong) (if ends_empty (10 ∷ lines) (length lines + 1) then Finished g else InTrailer lines g) (failed TooLong)
       (nothing_if (ends_empty (10 ∷ lines) (length lines + 1)) (Finished g) (InTrailer lines g) (finished g) (in_trailer lines g))
 
   pub byte_keeps_nothing : (place : Place) (b : ℕ) → KeepsNothing place → KeepsNothing (after_byte limit place b)

@@ -3,6 +3,7 @@ use Rattle.std.proofs.Common.{◌≡◌, ℕ, suc, ◌+◌, ◌*◌, ◌-◌, �
 use Rattle.std.specs.Prelude.{nat_lt, nat_le}
 use Rattle.std.proofs.lemmas.Grind.{common_steps}
 use Rattle.httparse.specs.Grammar.{ResponseHead}
+use Rattle.tpf_base.specs.declared.limits.TheConstants.{MOST_FIELDS}
 use Rattle.tpf_base.specs.HttpReply.{Place, InHeads, InSized, InUnsized, InLine, InChunk, AtReturn, AtNewline, InTrailer, Finished, Failed, Gathered, Reading, More, Whole, Bad, one_more, is_open, after_byte, after_bytes, reading_from, at_the_end, begun, reply_of, HeadRead, Announces, IsRefused, Sized, Chunked, ToClose, with_byte, with_extra, is_over, is_padded, unless, after_head_byte, head_place, body_place, final_head, is_interim, response_head, line_place, after_line_byte, after_trailer_byte, chunk_size, gathering, TooLong, BadHead, BadFraming}
 use Rattle.tpf_base.specs.HttpHeads.{ends_empty, field_lines}
 use Rattle.std.proofs.lemmas.List.{length_push}
@@ -53,8 +54,8 @@ heads limit n passed (Some r) is h =
 head_step : (limit n passed : ℕ) (head : List ℕ) → n ≡ passed + length head → n ≤ 65536 → Holds limit n (after_head_byte limit passed head)
 unfolding after_head_byte
 head_step limit n passed head is h =
-    either limit n (ends_empty head (length head)) (if nat_lt 64 (field_lines head) then Failed BadHead else head_place limit (passed + length head) (response_head head)) (if nat_le 65536 (passed + length head) then Failed TooLong else InHeads passed head)
-    (λ e. either limit n (nat_lt 64 (field_lines head)) (Failed BadHead) (head_place limit (passed + length head) (response_head head)) (λ f. tt) (λ f. heads limit n (passed + length head) (response_head head) is h))
+    either limit n (ends_empty head (length head)) (if nat_lt MOST_FIELDS (field_lines head) then Failed BadHead else head_place limit (passed + length head) (response_head head)) (if nat_le 65536 (passed + length head) then Failed TooLong else InHeads passed head)
+    (λ e. either limit n (nat_lt MOST_FIELDS (field_lines head)) (Failed BadHead) (head_place limit (passed + length head) (response_head head)) (λ f. tt) (λ f. heads limit n (passed + length head) (response_head head) is h))
     (λ e. either limit n (nat_le 65536 (passed + length head)) (Failed TooLong) (InHeads passed head) (λ f. tt) (λ f. let below = le_false 65536 (passed + length head) f in (is, omega arith)))
 
 unpadded : (g : Gathered) → is_padded g ≡ false → g.extra ≤ 1048576 + 8 * length g.body
@@ -198,8 +199,8 @@ pads_head limit passed (Some r) =
 pads_head_step : (limit passed : ℕ) (head : List ℕ) → Pads (after_head_byte limit passed head)
 unfolding after_head_byte
 pads_head_step limit passed head =
-    pads_either (ends_empty head (length head)) (if nat_lt 64 (field_lines head) then Failed BadHead else head_place limit (passed + length head) (response_head head)) (if nat_le 65536 (passed + length head) then Failed TooLong else InHeads passed head)
-    (λ e. pads_either (nat_lt 64 (field_lines head)) (Failed BadHead) (head_place limit (passed + length head) (response_head head)) (λ f. tt) (λ f. pads_head limit (passed + length head) (response_head head)))
+    pads_either (ends_empty head (length head)) (if nat_lt MOST_FIELDS (field_lines head) then Failed BadHead else head_place limit (passed + length head) (response_head head)) (if nat_le 65536 (passed + length head) then Failed TooLong else InHeads passed head)
+    (λ e. pads_either (nat_lt MOST_FIELDS (field_lines head)) (Failed BadHead) (head_place limit (passed + length head) (response_head head)) (λ f. tt) (λ f. pads_head limit (passed + length head) (response_head head)))
     (λ e. pads_either (nat_le 65536 (passed + length head)) (Failed TooLong) (InHeads passed head) (λ f. tt) (λ f. tt))
 
 pads_line_end : (g : Gathered) (o : Option ℕ) → g.extra ≤ 1026 * length g.body + 1024 → Pads (line_place g o)

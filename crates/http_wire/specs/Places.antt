@@ -1,8 +1,9 @@
 -- The code's stages as places in a reply.
 use Rattle.std.specs.Prelude.{ℕ, ◌≡◌, ◌+◌, ◌-◌, ◌<◌, ◌≤◌, ◌==◌, ◌++◌, Bool, true, false, not, ◌&&◌, nat_lt, nat_le, min, List, [], ◌∷◌, length, take, drop, codes, Option, Some, None, if◌then◌else◌}
 use Rattle.std.specs.List.{between, list_any}
+use Rattle.tpf_base.specs.declared.limits.TheConstants.{HEADS_LIMIT, MOST_FIELDS}
 use Rattle.tpf_base.specs.HttpHeads.{values_of, says_close, field_lines}
-use Rattle.tpf_base.specs.HttpReply.{Place, InHeads, InSized, InUnsized, InLine, InChunk, AtReturn, AtNewline, InTrailer, Finished, Failed, Gathered, gathering, TooLong, BadFraming, BadHead, BadStatus, BadMediaType, BadCoding, HeadRead, Announces, IsRefused, Framing, is_to_close, is_nquads, is_coding, framing_of, heads_limit, head_place, response_head, begun, is_open, after_byte, after_bytes, reading_from, at_the_end}
+use Rattle.tpf_base.specs.HttpReply.{Place, InHeads, InSized, InUnsized, InLine, InChunk, AtReturn, AtNewline, InTrailer, Finished, Failed, Gathered, gathering, TooLong, BadFraming, BadHead, BadStatus, BadMediaType, BadCoding, HeadRead, Announces, IsRefused, Framing, is_to_close, is_nquads, is_coding, framing_of, head_place, response_head, begun, is_open, after_byte, after_bytes, reading_from, at_the_end}
 use Rattle.http_wire.specs.Replies.{fault_of, closed_at, longer, Runs}
 use Rattle.http_wire.specs.declared.state.Stage.{Stage}
 use Rattle.http_wire.specs.declared.state.Stage.TheVariants as stage
@@ -22,7 +23,7 @@ start_place code.ToClose = InUnsized (gathering false)
 
 -- where it goes on where so many bytes of heads were passed over
 abbrev pub interim_place : ℕ → Place
-interim_place passed = if nat_le heads_limit passed then Failed TooLong else InHeads passed []
+interim_place passed = if nat_le HEADS_LIMIT passed then Failed TooLong else InHeads passed []
 
 -- what is announced where the head lets the connection be kept
 abbrev pub announced : Bool → Option Framing → HeadRead
@@ -39,7 +40,7 @@ final_of status minor fields =
 
 -- the place behind a whole head
 unfoldable pub judged_place : ℕ → ℕ → List ℕ → Place
-judged_place limit passed head = if nat_lt 64 (field_lines head) then Failed BadHead else head_place limit passed (response_head head)
+judged_place limit passed head = if nat_lt MOST_FIELDS (field_lines head) then Failed BadHead else head_place limit passed (response_head head)
 
 -- the place that a stage of the code stands for
 abbrev pub place_for : Stage → ℕ → List ℕ → Gathered → Place

@@ -1,18 +1,17 @@
-// Chunk lines (RFC 9112, section 7.1), by a grammar of this project: one to fifteen digits, any
-// blanks, and nothing or a semicolon and an extension.
+// Chunk lines (RFC 9112, section 7.1), by a grammar of this project: one digit to
+// `MOST_CHUNK_DIGITS`, any blanks, and nothing or a semicolon and an extension.
 ghost use Rattle.std.specs.Prelude.{◌≡◌, ◌<◌, ◌^◌, ◌&&◌, nat_lt, nat_le, length, true};
 ghost use Rattle.std.specs.List.{list_all};
 ghost use Rattle.std.specs.Char.{is_ascii_hexdigit, digit_value};
 ghost use Rattle.std.specs.Str.Parse.{digits_value};
 ghost use Rattle.httparse.specs.Grammar.{is_extension_byte, skip_ows};
+ghost use Rattle.tpf_base.specs.declared.limits.TheConstants.{MOST_CHUNK_DIGITS};
 ghost use Rattle.tpf_base.specs.HttpReader.{split_run};
 ghost use Rattle.tpf_base.specs.HttpReply.{chunk_size, is_line_rest};
 
 use crate::fields::skip_blanks;
 use crate::heads::front;
-
-/// The most digits of a size.
-const MOST_DIGITS: usize = 15;
+use tpf_base::MOST_CHUNK_DIGITS;
 
 /// What follows the hexadecimal digits at the front.
 #[tactic(auto, unfolding(tpf_base::specs::HttpReader::split_run))]
@@ -101,9 +100,9 @@ fn split_digits(line: &[u8]) -> (&[u8], &[u8])
 /// Whether these are the parts of a chunk line.
 fn are_parts(digits: &[u8], rest: &[u8]) -> bool
     ensures { result ≡ (nat_lt 0 (length digits.now)
-        && (nat_le (length digits.now) 15 && is_line_rest (skip_ows rest.now))) }
+        && (nat_le (length digits.now) MOST_CHUNK_DIGITS && is_line_rest (skip_ows rest.now))) }
 {
-    digits.len() > 0 && digits.len() <= MOST_DIGITS && is_line_rest(skip_blanks(rest))
+    digits.len() > 0 && digits.len() <= MOST_CHUNK_DIGITS && is_line_rest(skip_blanks(rest))
 }
 
 /// The size that a whole chunk line gives.

@@ -12,10 +12,10 @@ ghost use Rattle.http_wire.specs.Places.{start_place, interim_place, announced, 
 
 use crate::fields::{count_named, first_place, is_named, is_word, says_close};
 use crate::heads::{front, line_feeds};
-use crate::judge::MOST_FIELDS;
 use crate::message::ReplyFault;
 use httparse::Status;
 use httparse::spans::{EMPTY_HEADER_SPAN, HeaderSpan, ResponseSpans, parse_response};
+use tpf_base::MOST_FIELDS;
 
 /// The value of the first field of this name.
 fn first_named<'a>(head: &'a [u8], headers: &[HeaderSpan], name: &[u8]) -> Option<&'a [u8]>

@@ -14,10 +14,7 @@ use crate::{fields, target};
 use httparse::Status;
 use httparse::spans::{EMPTY_HEADER_SPAN, HeaderSpan, RequestSpans, parse_request};
 use std::alloc::Global;
-use tpf_base::OutOfMemory;
-
-/// The most field lines of a head.
-pub const MOST_FIELDS: usize = 64;
+use tpf_base::{MOST_FIELDS, OutOfMemory};
 
 fn method_of(method: &[u8]) -> Asked
     ensures { result ≡ asked_of method.now }

@@ -32,9 +32,9 @@ pub enum NextHead {
     More,
     /// The next request.
     Head(RequestHead),
-    /// The status with which the connection ends: 431 for a head with more than 64 field lines, and
-    /// for one that together with the empty lines before it has more bytes than `HEAD_LIMIT` of
-    /// `tpf_base` (4194304); 400 for what is no head of HTTP/1.0 or 1.1, a head of 1.1 without
+    /// The status with which the connection ends: 431 for a head with more field lines than
+    /// `MOST_FIELDS` of `tpf_base` (64), and for one that together with the empty lines before it has
+    /// more bytes than `HEAD_LIMIT` (4194304); 400 for what is no head of HTTP/1.0 or 1.1, a head of 1.1 without
     /// exactly one Host field, and a target that begins with neither `/` nor `http://`, or has a `#`
     /// or a byte that is no visible ASCII (RFC 9110, section 15.5.1; RFC 9112, section 3.2; RFC 6585,
     /// section 5).
@@ -73,7 +73,8 @@ pub enum Fed {
 /// Why a reply is refused.
 #[derive(Clone, Copy, Debug, PartialEq, Eq)]
 pub enum ReplyFault {
-    /// What is no head of a reply, or a head with more than 64 field lines.
+    /// What is no head of a reply, or a head with more field lines than `MOST_FIELDS` of `tpf_base`
+    /// (64).
     Head,
     /// A status other than 200 and those of 100 to 199, which are passed over.
     Status(u16),
@@ -83,9 +84,9 @@ pub enum ReplyFault {
     /// A Content-Encoding other than `identity` (RFC 9110, section 8.4).
     Coding,
     /// What is not taken as a length or as chunks: a Transfer-Encoding other than one `chunked`,
-    /// Content-Lengths other than the same digits, a chunk line other than one to fifteen
-    /// hexadecimal digits, blanks, and nothing or an extension, one of more bytes than `LINE_LIMIT`
-    /// of `tpf_base` (1024), and a chunk without CR LF behind it (RFC 9112, sections 6 and 7).
+    /// Content-Lengths other than the same digits, a chunk line other than one hexadecimal digit to
+    /// `MOST_CHUNK_DIGITS` of `tpf_base` (15), blanks, and nothing or an extension, one of more bytes
+    /// than `LINE_LIMIT` (1024), and a chunk without CR LF behind it (RFC 9112, sections 6 and 7).
     Framing,
     /// Heads together of more bytes than `HEADS_LIMIT` of `tpf_base` (65536), a body longer than the
     /// limit, lines behind the last chunk of more bytes than `HEADS_LIMIT`, or chunk lines and line

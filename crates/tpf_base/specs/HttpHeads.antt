@@ -4,7 +4,7 @@ use Rattle.std.specs.List.{list_all, list_any, slice_split, starts_with}
 use Rattle.std.specs.Str.{str_eq_ignore_ascii_case}
 use Rattle.httparse.specs.Grammar.{Field, RequestHead, trim_ows}
 use Rattle.httparse.specs.Spans.{name_and_value}
-use Rattle.tpf_base.specs.declared.limits.TheConstants.{HEAD_LIMIT}
+use Rattle.tpf_base.specs.declared.limits.TheConstants.{HEAD_LIMIT, MOST_FIELDS}
 use Rattle.tpf_base.specs.HttpReader.{read_request}
 
 -- ---- where a head begins and ends
@@ -134,15 +134,11 @@ abbrev pub judged_head : Option RequestHead → Verdict
 judged_head None = Rejected 400
 judged_head (Some h) = if names_host h && is_target h.target then Accepted (request_of h) else Rejected 400
 
--- what becomes of a head, its empty line included: 431 for more than 64 field lines, 400 for what is no request
+-- what becomes of a head, its empty line included: 431 for more than MOST_FIELDS field lines, 400 for what is no request
 unfoldable pub judged : List ℕ → Verdict
-judged head = if nat_lt 64 (field_lines head) then Rejected 431 else judged_head (taken_whole (read_request head))
+judged head = if nat_lt MOST_FIELDS (field_lines head) then Rejected 431 else judged_head (taken_whole (read_request head))
 
 -- ---- the heads at the front of a list of bytes
-
--- the most bytes of a head and the empty lines before it
-abbrev pub head_limit : ℕ
-head_limit = HEAD_LIMIT
 
 -- no whole head yet; a request and how many bytes it took; or the status with which the connection ends
 pub data NextRequest : Type 0 where
@@ -155,8 +151,8 @@ with_length n (Accepted r) = Taken r n
 with_length n (Rejected status) = Refused status
 
 abbrev pub next_at : List ℕ → ℕ → Option ℕ → NextRequest
-next_at bytes blank None = if nat_le head_limit (length bytes) then Refused 431 else Incomplete
-next_at bytes blank (Some n) = if nat_lt head_limit (blank + n) then Refused 431 else with_length (blank + n) (judged (take n (drop blank bytes)))
+next_at bytes blank None = if nat_le HEAD_LIMIT (length bytes) then Refused 431 else Incomplete
+next_at bytes blank (Some n) = if nat_lt HEAD_LIMIT (blank + n) then Refused 431 else with_length (blank + n) (judged (take n (drop blank bytes)))
 
 -- the first request: the empty lines at the front are passed over
 unfoldable pub next_request : List ℕ → NextRequest

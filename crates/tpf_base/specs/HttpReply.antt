@@ -6,7 +6,7 @@ use Rattle.std.specs.Str.{str_eq_ignore_ascii_case}
 use Rattle.std.specs.Str.Parse.{digits_value}
 use Rattle.std.specs.Char.{is_ascii_digit, is_ascii_hexdigit}
 use Rattle.httparse.specs.Grammar.{ResponseHead, status_code, skip_ows, is_extension_byte}
-use Rattle.tpf_base.specs.declared.limits.TheConstants.{HEADS_LIMIT, LINE_LIMIT, PADDING_LIMIT}
+use Rattle.tpf_base.specs.declared.limits.TheConstants.{HEADS_LIMIT, LINE_LIMIT, MOST_CHUNK_DIGITS, MOST_FIELDS, PADDING_LIMIT}
 use Rattle.tpf_base.specs.HttpReader.{read_response, split_run}
 use Rattle.tpf_base.specs.HttpHeads.{blank_length, ends_empty, field_lines, pairs_of, values_of, is_word, says_close, taken_whole}
 
@@ -16,10 +16,6 @@ pub data ReplyFault : Type 0 where
   BadStatus : ℕ → ReplyFault
 
 -- ---- the head
-
--- the most bytes of heads, and of lines after a body in chunks
-abbrev pub heads_limit : ℕ
-heads_limit = HEADS_LIMIT
 
 -- the head that is all of the text, which may begin with empty lines
 unfoldable pub response_head : List ℕ → Option ResponseHead
@@ -98,15 +94,11 @@ is_line_rest (b ∷ bs) = bytes_eq (if b == 59 then (split_run is_extension_byte
 
 abbrev pub size_of_run : List ℕ × List ℕ → Option ℕ
 size_of_run (digits, rest) =
-    if nat_lt 0 (length digits) && (nat_le (length digits) 15 && is_line_rest (skip_ows rest)) then Some (digits_value 16 digits) else None
+    if nat_lt 0 (length digits) && (nat_le (length digits) MOST_CHUNK_DIGITS && is_line_rest (skip_ows rest)) then Some (digits_value 16 digits) else None
 
--- the size that a chunk line gives: one to fifteen digits, any blanks, and what may follow
+-- the size that a chunk line gives: one digit to MOST_CHUNK_DIGITS, any blanks, and what may follow
 unfoldable pub chunk_size : List ℕ → Option ℕ
 chunk_size line = size_of_run (split_run is_ascii_hexdigit line)
-
--- the most bytes of a chunk line
-abbrev pub line_limit : ℕ
-line_limit = LINE_LIMIT
 
 -- ---- what was read so far
 
@@ -152,14 +144,14 @@ body_place limit (Announces (Sized n) keeps) =
 unfoldable pub head_place : ℕ → ℕ → Option ResponseHead → Place
 head_place limit passed None = Failed BadHead
 head_place limit passed (Some h) =
-    if is_interim h then (if nat_le heads_limit passed then Failed TooLong else InHeads passed []) else body_place limit (final_head h)
+    if is_interim h then (if nat_le HEADS_LIMIT passed then Failed TooLong else InHeads passed []) else body_place limit (final_head h)
 
 -- with one more byte of a head
 unfoldable pub after_head_byte : ℕ → ℕ → List ℕ → Place
 after_head_byte limit passed head =
     if ends_empty head (length head)
-    then (if nat_lt 64 (field_lines head) then Failed BadHead else head_place limit (passed + length head) (response_head head))
-    else (if nat_le heads_limit (passed + length head) then Failed TooLong else InHeads passed head)
+    then (if nat_lt MOST_FIELDS (field_lines head) then Failed BadHead else head_place limit (passed + length head) (response_head head))
+    else (if nat_le HEADS_LIMIT (passed + length head) then Failed TooLong else InHeads passed head)
 
 -- with one more byte of the body
 abbrev pub with_byte : Gathered → ℕ → Gathered
@@ -189,13 +181,13 @@ line_place g (Some size) = unless (is_padded g) (if size == 0 then InTrailer [] 
 -- with one more byte of a chunk line, counted
 unfoldable pub after_line_byte : List ℕ → ℕ → Gathered → Place
 after_line_byte line b g =
-    if nat_lt line_limit (length line) then Failed BadFraming
+    if nat_lt LINE_LIMIT (length line) then Failed BadFraming
     else (if b == 10 then line_place g (chunk_size line) else unless (is_padded g) (InLine line g))
 
 -- with one more byte of the lines behind the last chunk
 unfoldable pub after_trailer_byte : List ℕ → Gathered → Place
 after_trailer_byte lines g =
-    if nat_lt heads_limit (length lines) then Failed TooLong
+    if nat_lt HEADS_LIMIT (length lines) then Failed TooLong
     else (if ends_empty (10 ∷ lines) (length lines + 1) then Finished g else InTrailer lines g)
 
 -- one byte further; a reply that is finished or refused has no further byte

@@ -3,6 +3,7 @@ use Rattle.std.specs.Prelude.{ℕ, ◌≡◌, ◌≤◌, ◌<◌, Option, Some, 
 use Rattle.std.proofs.Common.{refl, sym, ◌∙◌, ap}
 use Rattle.std.proofs.lemmas.Bool.{le-ltb}
 use Rattle.std.proofs.lemmas.Option.{none-some}
+use Rattle.tpf_base.specs.declared.wire.TheConstants.{MOST_IDLE}
 use Rattle.tpf_base.specs.Links.{TellsCounts, IsToldBy, ReceivesOwed, OwesAllowed, CountsAlone}
 use Rattle.wire_real.specs.declared.account.Account.{Account}
 use Rattle.wire_real.specs.Accounts.{closed_link, link_of, link_at}
@@ -27,5 +28,5 @@ pub owes_none : (given : ℕ) (held : ℕ → Option Account) (k : ℕ) → Owes
 owes_none given held k host port sent owed is_peer is_sent is_owed =
     absurd (none-some sent (sym (of_counts (nat_lt k given) (held k)).sent ∙ is_sent))
 
-pub never_lively : (idle : ℕ) → false ≡ true → idle < 1000
+pub never_lively : (idle : ℕ) → false ≡ true → idle < MOST_IDLE
 never_lively idle lively = cc
