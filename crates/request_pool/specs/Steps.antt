@@ -5,6 +5,7 @@ use Rattle.std.specs.List.Sorted.{IsPermutation}
 use Rattle.tpf_base.specs.Causes.{Rose, HasCause, counted}
 use Rattle.tpf_base.specs.declared.fault.Fault.{Fault}
 use Rattle.tpf_base.specs.declared.fault.Fault.TheVariants as failures
+use Rattle.tpf_base.specs.declared.wire.TheConstants.{MOST_IDLE}
 use Rattle.tpf_base.specs.declared.wire.Ready.{Ready}
 use Rattle.tpf_base.specs.Addresses.{Address}
 use Rattle.tpf_base.specs.Links.{WireState}
@@ -56,10 +57,10 @@ pub record GivesUp (fault : PoolFault) (result : Result Stepped PoolFault) (old 
   pub shuts : Shuts f.exchange.link wire wire'
   pub to : FailsTo fault result f (record old { polled = rest; due = [] }) new
 
--- One wait. Where it failed, or 1000 waits followed one another, the oldest exchange is given up.
+-- One wait. Where it failed, or MOST_IDLE waits followed one another, the oldest exchange is given up.
 pub data WaitsTo (result : Result Stepped PoolFault) (old new : Pooled) (wire wire' : WireState) : Type 0 where
-  Passes : (ready : Ready) → result ≡ Ok Waited → IsWait (Ok ready) wire wire' → wire'.idle < 1000 → new ≡ old → WaitsTo result old new wire wire'
-  Stalls : (ready : Ready) (mid : WireState) → IsWait (Ok ready) wire mid → 1000 ≤ mid.idle → GivesUp faults.Stalled result old new mid wire' → WaitsTo result old new wire wire'
+  Passes : (ready : Ready) → result ≡ Ok Waited → IsWait (Ok ready) wire wire' → wire'.idle < MOST_IDLE → new ≡ old → WaitsTo result old new wire wire'
+  Stalls : (ready : Ready) (mid : WireState) → IsWait (Ok ready) wire mid → MOST_IDLE ≤ mid.idle → GivesUp faults.Stalled result old new mid wire' → WaitsTo result old new wire wire'
   Misses : (mid : WireState) → IsWait (Err failures.Failed) wire mid → GivesUp faults.Exchange result old new mid wire' → WaitsTo result old new wire wire'
   Lacks : IsWait (Err failures.OutOfMemory) wire wire' → result ≡ Err faults.OutOfMemory → new ≡ old → WaitsTo result old new wire wire'
 

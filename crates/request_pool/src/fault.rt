@@ -29,7 +29,7 @@ pub enum PoolFault {
     /// A ticket failed once more than it may be tried again, and the last time the wire's count of
     /// faults rose.
     Exchange,
-    /// The same, and the last time 1000 waits had followed one another.
+    /// The same, and the last time `MOST_IDLE` (1000) waits had followed one another.
     Stalled,
     /// The same, and the last time its link ended before the reply was whole. What was received in
     /// reply is handed over.

@@ -2,13 +2,16 @@
 //! wait, are in flight, and come or fail.
 //!
 //! A pool is made by `Pool::new` and given asks by `put`. This is a step of it: a reply comes for a ticket, nothing does
-//! yet, all came, or it ends with a fault:
+//! yet, or all came (`Stepped::Idle`); or it ends with a fault:
 //!
 //! ```rust
 //! match pool.step(wire) {
-//!     Ok(Stepped::Came { ticket, .. }) => told = format!(in alloc; "{told}{ticket} ")?,
-//!     Ok(Stepped::Waited) => {}
-//!     Ok(Stepped::Idle) => return Ok(format!(in alloc; "{told}idle")?),
+//!     Ok(stepped) => {
+//!         told = format!(in alloc; "{told}{}", shown(alloc, &stepped)?)?;
+//!         if matches!(stepped, Stepped::Idle) {
+//!             return Ok(told);
+//!         }
+//!     }
 //!     Err(fault) => return Ok(format!(in alloc; "{told}{}", fault_name(&fault))?),
 //! }
 //! ```

@@ -1,6 +1,7 @@
 // A pool of exchanges over one wire.
 ghost use Rattle.std.specs.Prelude.{◌≡◌, ◌≢◌, ◌<◌, ◌≤◌, ◌⊎◌, [], length, Some, None, Ok, Err, IfOk, OnOk, OnErr, min, ◌^◌, ◌-◌, IfErr};
 ghost use Rattle.std.specs.List.{AllByRecursion};
+ghost use Rattle.tpf_base.specs.declared.limits.TheConstants.{MOST_LINKS};
 ghost use Rattle.tpf_base.specs.Links.{WireState, SameAllowed};
 ghost use Rattle.request_pool.specs.Pools.{Pooled, IsOverBudget, empty_pool, held, in_flight, bounds_of, with_ask};
 ghost use Rattle.request_pool.specs.Owned.{SuitsWire};
@@ -66,10 +67,10 @@ impl Pool {
     /// A pool that holds nothing: at most `links` exchanges are in flight at once, and as many links
     /// (connections) that exchanges left open are kept for later asks; a ticket is asked again at most
     /// `retries` times; at most `budget` exchanges are started; and a reply may have a body of at most
-    /// `limit` bytes. Condition: `links` is 1 to 256. It takes no memory.
+    /// `limit` bytes. Condition: `links` is 1 to `MOST_LINKS` (256). It takes no memory.
     pub fn new(alloc: Global, links: u32, retries: u32, budget: u64, limit: u64) -> Pool
         requires some { 0 < links }
-        requires few { links ≤ 256 }
+        requires few { links ≤ MOST_LINKS }
         ensures empty { result ≡ empty_pool links retries budget limit }
         ensures suits { (wire : WireState) → SuitsWire result wire }
     {

@@ -7,14 +7,11 @@ ghost use Rattle.request_pool.specs.Steps.{GivesUp, WaitsTo};
 use crate::fault::{PoolFault, Stepped};
 use crate::links::shut;
 use crate::pool::Pool;
-use tpf_base::{Dial, Fault};
-
-/// So many waits that follow one another, with nothing moved between, are a stall.
-const STALL: u64 = 1000;
+use tpf_base::{Dial, Fault, MOST_IDLE};
 
 impl Pool {
-    /// Waits for the wire. A wait that fails, and one behind which too many followed one another, is
-    /// a failure of the oldest exchange.
+    /// Waits for the wire. A wait that fails, and one behind which `MOST_IDLE` (1000) followed one
+    /// another with nothing moved, is a failure of the oldest exchange.
     pub(crate) fn wait<W: Dial>(&mut self, wire: &mut W) -> Result<Stepped, PoolFault>
         requires suits { SuitsWire self.old (W.state wire.old) }
         requires none_due { self.old.due ≡ [] }
@@ -26,7 +23,7 @@ impl Pool {
     {
         match wire.wait() {
             Ok(_) => {
-                if wire.idle() < STALL {
+                if wire.idle() < MOST_IDLE {
                     return Ok(Stepped::Waited);
                 }
                 self.give_up(wire, PoolFault::Stalled)

@@ -3,14 +3,14 @@ use Rattle.std.proofs.Common.{refl, arith, Err}
 use Rattle.request_pool.specs.Steps.{IsWait, Passes, Stalls, Misses}
 use Rattle.request_pool.proofs.pool.Pool.wait.Goals as goal
 
-pub returns-then-idle-lt-STALL-clause-waits : goal.returns-then-idle-lt-STALL-clause-waits
-returns-then-idle-lt-STALL-clause-waits g c =
-    Passes c.in-Ok.field-0 refl (record { ok = c.in-Ok.ensures.ok; err = c.in-Ok.ensures.err; only = c.in-Ok.ensures.only; cause = c.in-Ok.ensures.cause; steady = c.in-Ok.ensures.steady }) (omega (arith, c.idle.ensures, c.if-idle-lt-STALL.true)) refl
+pub returns-then-idle-lt-MOST_IDLE-clause-waits : goal.returns-then-idle-lt-MOST_IDLE-clause-waits
+returns-then-idle-lt-MOST_IDLE-clause-waits g c =
+    Passes c.in-Ok.field-0 refl (record { ok = c.in-Ok.ensures.ok; err = c.in-Ok.ensures.err; only = c.in-Ok.ensures.only; cause = c.in-Ok.ensures.cause; steady = c.in-Ok.ensures.steady }) (omega (arith, c.idle.ensures, c.if-idle-lt-MOST_IDLE.true)) refl
 
-pub returns-else-idle-lt-STALL-clause-waits : goal.returns-else-idle-lt-STALL-clause-waits
-returns-else-idle-lt-STALL-clause-waits g c =
+pub returns-else-idle-lt-MOST_IDLE-clause-waits : goal.returns-else-idle-lt-MOST_IDLE-clause-waits
+returns-else-idle-lt-MOST_IDLE-clause-waits g c =
     Stalls c.in-Ok.field-0 (g.W.Wire.state c.wait.new.self) (record { ok = c.in-Ok.ensures.ok; err = c.in-Ok.ensures.err; only = c.in-Ok.ensures.only; cause = c.in-Ok.ensures.cause; steady = c.in-Ok.ensures.steady })
-    (omega (arith, c.idle.ensures, c.if-idle-lt-STALL.false)) c.give_up.ensures.gives_up
+    (omega (arith, c.idle.ensures, c.if-idle-lt-MOST_IDLE.false)) c.give_up.ensures.gives_up
 
 pub returns-in-Err-Failed-clause-waits : goal.returns-in-Err-Failed-clause-waits
 returns-in-Err-Failed-clause-waits g c =
