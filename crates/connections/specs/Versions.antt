@@ -1,10 +1,6 @@
 -- Numbered versions of data.
 use Rattle.std.specs.Prelude.{ℕ, ◌≡◌, List, ◌∷◌, [], ◌++◌, length, Option, Some, None}
 
--- the most versions of one server
-unfoldable pub MOST_VERSIONS : ℕ
-MOST_VERSIONS = 9999999999999999999
-
 -- what is served now, how, and the number of its version
 pub record Serving (Data Settings : Type 0) : Type 0 where
   pub data_set : Data

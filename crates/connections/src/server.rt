@@ -1,6 +1,7 @@
 // A server of numbered versions of data.
 ghost use Rattle.std.specs.Prelude.{ℕ, ◌≡◌, ◌+◌, ◌<◌, ◌≤◌, IfOk, OnErr};
-ghost use Rattle.connections.specs.Versions.{Serving, MOST_VERSIONS};
+ghost use Rattle.tpf_base.specs.declared.limits.TheConstants.{HIGHEST_NUMBER};
+ghost use Rattle.connections.specs.Versions.{Serving};
 
 use tpf_base::OutOfMemory;
 
@@ -24,15 +25,15 @@ pub trait Serves {
     /// The second is the first after any reloads.
     ghost Follows: { Self → Self → Type 0 };
 
-    /// The number of the version, from 1 to 9999999999999999999.
+    /// The number of the version, from 1 to `HIGHEST_NUMBER` of `tpf_base` (9999999999999999999).
     fn version(&self) -> u64
         ensures version { result ≡ (serving self.now).version }
-        ensures most { result ≤ MOST_VERSIONS };
+        ensures most { result ≤ HIGHEST_NUMBER };
 
     /// Serves this table as the next version, and gives its number. After `OutOfMemory` it serves as
     /// before.
     fn reload(&mut self, table: Self::Table) -> Result<u64, OutOfMemory>
-        requires { (serving self.old).version < MOST_VERSIONS }
+        requires { (serving self.old).version < HIGHEST_NUMBER }
         ensures number { IfOk result (λ number. number ≡ (serving self.old).version + 1) }
         ensures ok { IfOk result (λ number. serving self.new
             ≡ record (serving self.old) { data_set = data_of table; version = number }) }

@@ -1,6 +1,6 @@
 // A server of one number, of which its connections do not speak.
 ghost use Rattle.std.specs.Prelude.{◌≡◌, ◌≤◌, ◌<◌, ◌+◌, Ok};
-ghost use Rattle.connections.specs.Versions.{MOST_VERSIONS};
+ghost use Rattle.tpf_base.specs.declared.limits.TheConstants.{HIGHEST_NUMBER};
 
 use connections::Serves;
 use tpf_base::OutOfMemory;
@@ -11,12 +11,11 @@ pub struct EchoServer {
     number: u64,
     version: u64,
     ghost numbered: { 1 ≤ version },
-    ghost most: { version ≤ MOST_VERSIONS },
+    ghost most: { version ≤ HIGHEST_NUMBER },
 }
 
 impl EchoServer {
     /// A server of this number, as version 1.
-    #[tactic(auto, unfolding(connections::specs::Versions::MOST_VERSIONS))]
     pub fn new(number: u64) -> EchoServer
         ensures number { result.number ≡ number }
         ensures version { result.version ≡ 1 }
@@ -51,7 +50,6 @@ impl Serves for EchoServer {
         self.version
     }
 
-    #[tactic(auto, unfolding(connections::specs::Versions::MOST_VERSIONS))]
     fn reload(&mut self, table: u64) -> Result<u64, OutOfMemory> {
         *self = EchoServer {
             number: table,

@@ -7,7 +7,8 @@ use Rattle.tpf_base.specs.Marks.{Mark, version_at}
 use Rattle.tpf_base.specs.Causes.{Rose}
 use Rattle.tpf_base.specs.Links.{WireState}
 use Rattle.tpf_base.proofs.SendingLemmas.{only_same}
-use Rattle.connections.specs.Versions.{Serving, MOST_VERSIONS, SupplyState}
+use Rattle.tpf_base.specs.declared.limits.TheConstants.{HIGHEST_NUMBER}
+use Rattle.connections.specs.Versions.{Serving, SupplyState}
 use Rattle.connections.specs.Kinds.{Kind, Grows, Reloads, Fills, mark_of, numbers_of}
 use Rattle.connections.specs.declared.reloaded.Reloaded.{Reloaded}
 use Rattle.connections.specs.declared.reloaded.Reloaded.TheVariants as outcomes
@@ -23,7 +24,7 @@ use Rattle.serve_loop.proofs.ReloadLemmas.{talk_answered, rising_last}
 use Rattle.serve_loop.proofs.PrepareLemmas.{relates_took, relates_none}
 use Rattle.serve_loop.proofs.EndsLemmas.{ends_none}
 
-excused_now : (since faults faults' version : ℕ) → since ≤ faults → Rose faults faults' ⊎ (version ≡ MOST_VERSIONS) → Rose since faults' ⊎ (version ≡ MOST_VERSIONS)
+excused_now : (since faults faults' version : ℕ) → since ≤ faults → Rose faults faults' ⊎ (version ≡ HIGHEST_NUMBER) → Rose since faults' ⊎ (version ≡ HIGHEST_NUMBER)
 excused_now since faults faults' version h e = elim e [ inl rose ↦ inl (omega (arith, h, rose)) | inr most ↦ inr most ]
 
 pub on_ok : {E : Type 0} (r : Result ⊤ E) (P : Type 0) → OnOk r P → is_ok r ≡ true → P

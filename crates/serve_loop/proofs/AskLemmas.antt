@@ -7,7 +7,8 @@ use Rattle.connections.specs.declared.reloaded.Reloaded.{Reloaded}
 use Rattle.connections.specs.declared.reloaded.Reloaded.TheVariants as outcomes
 use Rattle.tpf_base.specs.Causes.{counted_by}
 use Rattle.tpf_base.specs.Links.{WireState}
-use Rattle.connections.specs.Versions.{Serving, MOST_VERSIONS}
+use Rattle.tpf_base.specs.declared.limits.TheConstants.{HIGHEST_NUMBER}
+use Rattle.connections.specs.Versions.{Serving}
 use Rattle.serve_loop.specs.declared.live.Live.{Live}
 use Rattle.serve_loop.specs.declared.live.Part.{Part}
 use Rattle.serve_loop.specs.Traffic.{Moment, took}
@@ -46,7 +47,7 @@ module _ {Data Settings : Type 0} where
   version_more may outcomes.OutOfMemory old now s = let n = s.none (λ v e. cc) in omega (arith, ap (λ (y : Serving Data Settings). y.version) n.1)
 
   -- how often it was asked
-  pub calls_answered : (may : Data → Type 0) (xs : List Reloaded) (old now : Moment Data Settings) → AreAnswered may xs old now → old.served.version + length xs ≤ MOST_VERSIONS → old.supply.calls < 2 ^ 64
+  pub calls_answered : (may : Data → Type 0) (xs : List Reloaded) (old now : Moment Data Settings) → AreAnswered may xs old now → old.served.version + length xs ≤ HIGHEST_NUMBER → old.supply.calls < 2 ^ 64
       → (now.supply.calls ≡ counted_by (length xs) old.supply.calls) × (now.served.version ≤ old.served.version + length xs)
   calls_answered may [] old now a few fits =
       let c = ap (λ (m : Moment Data Settings). m.supply.calls) a in
@@ -148,5 +149,5 @@ module _ {C Data Settings : Type 0} where
         outcomes = h.outcomes;
         count = h.count ∙ same;
         answered = h.answered;
-        asked = subst (λ (m : ℕ). old.served.version + m ≤ MOST_VERSIONS → old.supply.calls < 2 ^ 64 → now.supply.calls ≡ counted_by m old.supply.calls) same h.asked;
+        asked = subst (λ (m : ℕ). old.served.version + m ≤ HIGHEST_NUMBER → old.supply.calls < 2 ^ 64 → now.supply.calls ≡ counted_by m old.supply.calls) same h.asked;
       }

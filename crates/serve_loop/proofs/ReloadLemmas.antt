@@ -8,7 +8,8 @@ use Rattle.tpf_base.specs.Links.{WireState}
 use Rattle.tpf_base.proofs.SendingLemmas.{holds_by}
 use Rattle.connections.specs.declared.reloaded.Reloaded.{Reloaded}
 use Rattle.connections.specs.declared.reloaded.Reloaded.TheVariants as outcomes
-use Rattle.connections.specs.Versions.{Serving, IsHistory, MOST_VERSIONS, with_first}
+use Rattle.tpf_base.specs.declared.limits.TheConstants.{HIGHEST_NUMBER}
+use Rattle.connections.specs.Versions.{Serving, IsHistory, with_first}
 use Rattle.connections.specs.Kinds.{Kind, Grows, Reloads, mark_of, numbers_of}
 use Rattle.serve_loop.specs.Traffic.{Talk, Given, Moment, took, with_given, updated}
 use Rattle.serve_loop.specs.Relates.{IsTalk, IsExcused, IsNumber, IsRising, Versions}
@@ -98,8 +99,8 @@ rising_last [] v r h = (tt, tt)
 rising_last (n ∷ ns) v r h = (all_append (λ m. n < m) ns (v ∷ []) r.0 (h.0, tt), rising_last ns v r.1 h.1)
 
 pub supplies_none : {Data Settings : Type 0} (may : Data → Type 0) (outcome : Reloaded) (old now : Moment Data Settings) (added : List (Given Data)) → ((v : ℕ) → outcome ≢ outcomes.Version v) → took added ≡ [] → now.served ≡ old.served
-    → old.supply.left ≡ with_given added now.supply.left → length added ≤ 1 → (outcome ≡ outcomes.Failed → (added ≡ []) × (Rose old.supply.faults now.supply.faults ⊎ (old.served.version ≡ MOST_VERSIONS))) → old.supply.faults ≤ now.supply.faults
-    → (old.served.version ≢ MOST_VERSIONS → now.supply.calls ≡ counted old.supply.calls) → (old.served.version ≡ MOST_VERSIONS → now.supply ≡ old.supply) → now.wire ≡ old.wire
+    → old.supply.left ≡ with_given added now.supply.left → length added ≤ 1 → (outcome ≡ outcomes.Failed → (added ≡ []) × (Rose old.supply.faults now.supply.faults ⊎ (old.served.version ≡ HIGHEST_NUMBER))) → old.supply.faults ≤ now.supply.faults
+    → (old.served.version ≢ HIGHEST_NUMBER → now.supply.calls ≡ counted old.supply.calls) → (old.served.version ≡ HIGHEST_NUMBER → now.supply ≡ old.supply) → now.wire ≡ old.wire
     → Supplies may outcome old now
 supplies_none {Data = Data} {Settings = Settings} may outcome old now added other none served left few failed faults asked unasked wire = record {
   added = added;
@@ -117,7 +118,7 @@ supplies_none {Data = Data} {Settings = Settings} may outcome old now added othe
 
 pub supplies_took : {Data Settings : Type 0} (may : Data → Type 0) (v : ℕ) (d : Data) (old now : Moment Data Settings) → may d → v ≡ old.served.version + 1 → now.served ≡ record old.served { data_set = d; version = v }
     → old.supply.left ≡ with_first d now.supply.left → old.supply.faults ≤ now.supply.faults
-    → (old.served.version ≡ MOST_VERSIONS → ⊥) → now.supply.calls ≡ counted old.supply.calls → now.wire ≡ old.wire → Supplies may (outcomes.Version v) old now
+    → (old.served.version ≡ HIGHEST_NUMBER → ⊥) → now.supply.calls ≡ counted old.supply.calls → now.wire ≡ old.wire → Supplies may (outcomes.Version v) old now
 supplies_took {Data = Data} {Settings = Settings} may v d old now m next served left faults below calls wire = record {
   added = record { data_set = d; took = true } ∷ [];
   few = omega arith;
@@ -132,21 +133,17 @@ supplies_took {Data = Data} {Settings = Settings} may v d old now m next served 
   wire = wire;
 }
 
-pub most_is : MOST_VERSIONS ≡ 9999999999999999999
-unfolding MOST_VERSIONS
-most_is = refl
-
 -- a version that is not the last one
-pub not_last : (n m : ℕ) → n ≡ m → (n ≡ 9999999999999999999 → ⊥) → m ≡ MOST_VERSIONS → ⊥
-not_last n m e no_most last = no_most (e ∙ last ∙ most_is)
+pub not_last : (n m : ℕ) → n ≡ m → (n ≡ HIGHEST_NUMBER → ⊥) → m ≡ HIGHEST_NUMBER → ⊥
+not_last n m e no_most last = no_most (e ∙ last)
 
 less_or : (n m : ℕ) → n ≤ m → (n < m) ⊎ (n ≡ m)
 less_or n m h = grind arith
 
-pub below_most : (n m : ℕ) → n ≤ MOST_VERSIONS → n ≡ m → (n ≡ 9999999999999999999 → ⊥) → m < MOST_VERSIONS
-below_most n m h e no_most = elim (less_or n MOST_VERSIONS h) [
-  | inl l ↦ subst (λ (x : ℕ). x < MOST_VERSIONS) e l
-  | inr most ↦ absurd (no_most (most ∙ most_is))
+pub below_most : (n m : ℕ) → n ≤ HIGHEST_NUMBER → n ≡ m → (n ≡ HIGHEST_NUMBER → ⊥) → m < HIGHEST_NUMBER
+below_most n m h e no_most = elim (less_or n HIGHEST_NUMBER h) [
+  | inl l ↦ subst (λ (x : ℕ). x < HIGHEST_NUMBER) e l
+  | inr most ↦ absurd (no_most most)
 ]
 
 module _ {C Data Settings : Type 0} where

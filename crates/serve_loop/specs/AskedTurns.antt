@@ -5,7 +5,7 @@ use Rattle.tpf_base.specs.Links.{WireState}
 use Rattle.tpf_base.specs.Marks.{Mark}
 use Rattle.tpf_base.specs.Sending.{Holds}
 use Rattle.connections.specs.Kinds.{Kind}
-use Rattle.connections.specs.Versions.{MOST_VERSIONS}
+use Rattle.tpf_base.specs.declared.limits.TheConstants.{HIGHEST_NUMBER}
 use Rattle.serve_loop.specs.declared.live.Live.{Live}
 use Rattle.serve_loop.specs.declared.live.Part.{Part}
 use Rattle.serve_loop.specs.Parts.{parted}
@@ -61,4 +61,4 @@ module _ {C Data Settings : Type 0} where
     pub served : now.served ≡ last.served
     pub supply : now.supply ≡ last.supply
     -- and by its count: as often as connections waited, where there are numbers for as many versions
-    pub asked : old.served.version + waited ≤ MOST_VERSIONS → old.supply.calls < 2 ^ 64 → now.supply.calls ≡ counted_by waited old.supply.calls
+    pub asked : old.served.version + waited ≤ HIGHEST_NUMBER → old.supply.calls < 2 ^ 64 → now.supply.calls ≡ counted_by waited old.supply.calls

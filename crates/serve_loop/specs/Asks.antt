@@ -1,7 +1,7 @@
 -- How a turn answers the connections that wait for a reload.
 use Rattle.std.specs.Prelude.{ℕ, zero, suc, ◌≡◌, ◌+◌, ◌^◌, ◌<◌, ◌≤◌, List, [], ◌∷◌, length, Option, Some, None, if◌then◌else◌}
 use Rattle.tpf_base.specs.Causes.{counted_by}
-use Rattle.connections.specs.Versions.{MOST_VERSIONS}
+use Rattle.tpf_base.specs.declared.limits.TheConstants.{HIGHEST_NUMBER}
 use Rattle.connections.specs.Kinds.{Kind}
 use Rattle.connections.specs.declared.reloaded.Reloaded.{Reloaded}
 use Rattle.serve_loop.specs.declared.live.Live.{Live}
@@ -45,5 +45,5 @@ module _ {C Data Settings : Type 0} where
     pub count : length outcomes ≡ waiting kind at keys
     pub answered : AreAnswered may outcomes old now
     -- and by its count: as often as connections waited, where there are numbers for as many versions
-    pub asked : old.served.version + waiting kind at keys ≤ MOST_VERSIONS → old.supply.calls < 2 ^ 64
+    pub asked : old.served.version + waiting kind at keys ≤ HIGHEST_NUMBER → old.supply.calls < 2 ^ 64
         → now.supply.calls ≡ counted_by (waiting kind at keys) old.supply.calls

@@ -5,7 +5,8 @@ use Rattle.tpf_base.specs.Marks.{Mark, Served, Failed, Starved, version_at}
 use Rattle.tpf_base.specs.Causes.{Rose, RoseBy}
 use Rattle.tpf_base.specs.Links.{WireState}
 use Rattle.tpf_base.specs.Sending.{Holds}
-use Rattle.connections.specs.Versions.{IsHistory, MOST_VERSIONS}
+use Rattle.tpf_base.specs.declared.limits.TheConstants.{HIGHEST_NUMBER}
+use Rattle.connections.specs.Versions.{IsHistory}
 use Rattle.connections.specs.Kinds.{Kind}
 use Rattle.serve_loop.specs.declared.live.Live.{Live}
 use Rattle.serve_loop.specs.Calls.{IsOwned, IsUntouched}
@@ -25,7 +26,7 @@ pub record SuitsWire {Server C : Type 0} (Suits : Server → C → Type 0) (serv
 -- a mark of a failure has a cause
 abbrev pub IsExcused : ℕ → ℕ → Mark → Type 0
 IsExcused before now (Served version) = Unit {0}
-IsExcused before now (Failed version) = Rose before now ⊎ (version ≡ MOST_VERSIONS)
+IsExcused before now (Failed version) = Rose before now ⊎ (version ≡ HIGHEST_NUMBER)
 IsExcused before now (Starved version) = Unit {0}
 
 -- the number of a version that a reload on this link made since

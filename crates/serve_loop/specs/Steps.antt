@@ -8,7 +8,8 @@ use Rattle.tpf_base.specs.Calls.{GivesAccepted, GivesNone}
 use Rattle.tpf_base.specs.Sending.{Holds}
 use Rattle.tpf_base.specs.Marks.{Mark, version_at}
 use Rattle.connections.specs.Kinds.{Kind, Feeds, Fills, Opens}
-use Rattle.connections.specs.Versions.{Serving, IsHistory, MOST_VERSIONS}
+use Rattle.tpf_base.specs.declared.limits.TheConstants.{HIGHEST_NUMBER}
+use Rattle.connections.specs.Versions.{Serving, IsHistory}
 use Rattle.connections.specs.declared.reloaded.Reloaded.{Reloaded}
 use Rattle.connections.specs.declared.reloaded.Reloaded.TheVariants as outcomes
 use Rattle.serve_loop.specs.declared.live.Live.{Live}
@@ -32,10 +33,10 @@ pub record Supplies {Data Settings : Type 0} (may : Data → Type 0) (outcome : 
   pub version : (v : ℕ) → outcome ≡ outcomes.Version v → (data_set : Data) × ((took added ≡ data_set ∷ []) × (v ≡ old.served.version + 1)
       × (now.served ≡ record old.served { data_set = data_set; version = v }))
   pub none : ((v : ℕ) → outcome ≢ outcomes.Version v) → (took added ≡ []) × (now.served ≡ old.served)
-  pub failed : outcome ≡ outcomes.Failed → (added ≡ []) × (Rose old.supply.faults now.supply.faults ⊎ (old.served.version ≡ MOST_VERSIONS))
+  pub failed : outcome ≡ outcomes.Failed → (added ≡ []) × (Rose old.supply.faults now.supply.faults ⊎ (old.served.version ≡ HIGHEST_NUMBER))
   pub faults : old.supply.faults ≤ now.supply.faults
-  pub asked : old.served.version ≢ MOST_VERSIONS → now.supply.calls ≡ counted old.supply.calls
-  pub unasked : old.served.version ≡ MOST_VERSIONS → now.supply ≡ old.supply
+  pub asked : old.served.version ≢ HIGHEST_NUMBER → now.supply.calls ≡ counted old.supply.calls
+  pub unasked : old.served.version ≡ HIGHEST_NUMBER → now.supply ≡ old.supply
   pub wire : now.wire ≡ old.wire
 
 module _ {C : Type 0} where

@@ -12,10 +12,7 @@ ghost use Rattle.serve_loop.specs.Steps.{Supplies, StepsOn, StepsLink, Makes, Pr
 
 use crate::live::{Live, MOST_SENT, Stepped};
 use connections::{Converses, Reloaded, Serves, Supply};
-use tpf_base::{Fault, Moved, OutOfMemory, Wire};
-
-/// The number of the last version that a server can have.
-const MOST: u64 = 9999999999999999999;
+use tpf_base::{Fault, HIGHEST_NUMBER, Moved, OutOfMemory, Wire};
 
 /// How a receive came out.
 #[derive(Clone, Copy, Debug, PartialEq, Eq)]
@@ -37,7 +34,7 @@ fn reload<V: Serves, S: Supply<V>>(server: &mut V, supply: &mut S) -> Reloaded
     ensures keeps { S.Keeps supply.old supply.new }
     ensures same { (data_set : V.Data) → S.may supply.new data_set ↔ S.may supply.old data_set }
 {
-    if server.version() == MOST {
+    if server.version() == HIGHEST_NUMBER {
         return Reloaded::Failed;
     }
     match supply.next() {

@@ -6,9 +6,8 @@ use crate::servers::table_of;
 use case_rows::{CaseFault, bytes_text};
 use std::alloc::Global;
 use std::str;
+use tpf_base::HIGHEST_NUMBER;
 use tpf_server::{Connection, Reloaded, Server};
-
-const MOST_VERSIONS: u64 = 9999999999999999999;
 
 /// Feeds a piece.
 fn feed_piece(server: &Server, connection: &mut Connection, piece: &[u8]) -> Result<(), CaseFault> {
@@ -105,7 +104,7 @@ pub fn taken_slowly(
 
 /// The next version of the server, with these data.
 pub fn read_again(alloc: Global, server: &mut Server, data: &str) -> Result<(), CaseFault> {
-    if server.version() >= MOST_VERSIONS {
+    if server.version() >= HIGHEST_NUMBER {
         return Err(CaseFault::Row);
     }
     let table = table_of(alloc, data)?;
