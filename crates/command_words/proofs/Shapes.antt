@@ -7,27 +7,16 @@ use Rattle.command_words.specs.Apps.{app_of_form, found_in}
 use Rattle.command_words.specs.Words.{Form, Text, arguments}
 use Rattle.command_words.specs.CommandNames.{form_by}
 use Rattle.command_words.specs.declared.from.Name.{Name}
-use Rattle.command_words.specs.Commands.{federate_form, local_form, make_form, query_form, serve_form}
+use Rattle.command_words.specs.declared.from.Name.TheVariants.{Local, Query, Federate, Serve, Make}
+use Rattle.command_words.specs.Commands.{local_form, query_form, federate_form, serve_form, make_form}
 
-pub local_is_free : is_simple_and_free (app_of_form local_form) ≡ true
-unfolding local_form clap_on_literals
-local_is_free = refl
-
-pub query_is_free : is_simple_and_free (app_of_form query_form) ≡ true
-unfolding query_form clap_on_literals
-query_is_free = refl
-
-pub serve_is_free : is_simple_and_free (app_of_form serve_form) ≡ true
-unfolding serve_form clap_on_literals
-serve_is_free = refl
-
-pub make_is_free : is_simple_and_free (app_of_form make_form) ≡ true
-unfolding make_form clap_on_literals
-make_is_free = refl
-
-pub federate_is_free : is_simple_and_free (app_of_form federate_form) ≡ true
-unfolding federate_form clap_on_literals
-federate_is_free = refl
+pub is_free : (name : Name) → is_simple_and_free (app_of_form (form_by name)) ≡ true
+unfolding local_form query_form federate_form serve_form make_form clap_on_literals
+is_free Local = refl
+is_free Query = refl
+is_free Federate = refl
+is_free Serve = refl
+is_free Make = refl
 
 -- the arguments of a form are those of the command that has it
 pub by_form : {E : Type 0} (name : Name) (form : Form) (found : Result (Option ArgMatches) E) (words : List Text) → form ≡ form_by name → IfOk found (λ o. option_map found_in o ≡ arguments form words)

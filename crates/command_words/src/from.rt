@@ -1,7 +1,8 @@
 // The arguments of each command.
 ghost use Rattle.std.specs.Prelude.{◌≡◌, ◌≤◌, IfOk, IfSome, option_map, map, string_bytes};
-ghost use Rattle.command_words.specs.Apps.{found_in};
+ghost use Rattle.command_words.specs.Apps.{HasFew, found_in};
 ghost use Rattle.command_words.specs.Words.{arguments};
+ghost use Rattle.command_words.specs.Forms.{form_of, texts};
 ghost use Rattle.command_words.specs.Commands.{words_of, number_in, client_in, choice_in, page_in, seed_in, local_with, local_from, query_with, query_from, rows_in, serve_with, serve_from, make_from, command_by, command_of};
 ghost use Rattle.command_words.specs.CommandNames.{form_by, from_by};
 ghost use Rattle.command_words.specs.CommandViews.{command_view};
@@ -272,8 +273,41 @@ enum Name {
     Make,
 }
 
+/// The names of arguments.
+type Names = &'static [&'static str];
+
+/// What may stand after the name of a command: its positionals, its options and its flags.
+#[tactic(auto, unfolding(crate::specs::Commands::local_form, crate::specs::Commands::query_form, crate::specs::Commands::federate_form, crate::specs::Commands::serve_form, crate::specs::Commands::make_form))]
+fn form_by(name: Name) -> (Names, Names, Names)
+    ensures form { form_of result.0.now result.1.now result.2.now ≡ form_by name }
+    ensures few { HasFew (texts result.0.now) }
+{
+    match name {
+        Name::Local => (
+            FILE_AND_QUERY.as_slice(),
+            LOCAL_OPTIONS.as_slice(),
+            UNION.as_slice(),
+        ),
+        Name::Query => (
+            URL_AND_QUERY.as_slice(),
+            QUERY_OPTIONS.as_slice(),
+            NONE.as_slice(),
+        ),
+        Name::Federate => (
+            QUERY_AND_URLS.as_slice(),
+            FEDERATE_OPTIONS.as_slice(),
+            NONE.as_slice(),
+        ),
+        Name::Serve => (
+            FILE.as_slice(),
+            SERVE_OPTIONS.as_slice(),
+            SERVE_FLAGS.as_slice(),
+        ),
+        Name::Make => (COUNT.as_slice(), MAKE_OPTIONS.as_slice(), NONE.as_slice()),
+    }
+}
+
 /// The arguments of a command in the words after its name.
-#[tactic(auto, using(crate::proofs::Shapes::local_is_free, crate::proofs::Shapes::query_is_free, crate::proofs::Shapes::federate_is_free, crate::proofs::Shapes::serve_is_free, crate::proofs::Shapes::make_is_free), unfolding(crate::specs::Commands::local_form, crate::specs::Commands::query_form, crate::specs::Commands::federate_form, crate::specs::Commands::serve_form, crate::specs::Commands::make_form))]
 fn arguments_by<'a>(
     alloc: Global,
     name: Name,
@@ -281,43 +315,8 @@ fn arguments_by<'a>(
 ) -> Result<Option<ArgMatches<'a>>, OutOfMemory>
     ensures { IfOk result (λ o. option_map found_in o ≡ arguments (form_by name) (map string_bytes words.entry.now)) }
 {
-    match name {
-        Name::Local => arguments_of(
-            alloc,
-            FILE_AND_QUERY.as_slice(),
-            LOCAL_OPTIONS.as_slice(),
-            UNION.as_slice(),
-            words,
-        ),
-        Name::Query => arguments_of(
-            alloc,
-            URL_AND_QUERY.as_slice(),
-            QUERY_OPTIONS.as_slice(),
-            NONE.as_slice(),
-            words,
-        ),
-        Name::Federate => arguments_of(
-            alloc,
-            QUERY_AND_URLS.as_slice(),
-            FEDERATE_OPTIONS.as_slice(),
-            NONE.as_slice(),
-            words,
-        ),
-        Name::Serve => arguments_of(
-            alloc,
-            FILE.as_slice(),
-            SERVE_OPTIONS.as_slice(),
-            SERVE_FLAGS.as_slice(),
-            words,
-        ),
-        Name::Make => arguments_of(
-            alloc,
-            COUNT.as_slice(),
-            MAKE_OPTIONS.as_slice(),
-            NONE.as_slice(),
-            words,
-        ),
-    }
+    let (positionals, options, flags) = form_by(name);
+    arguments_of(alloc, positionals, options, flags, words)
 }
 
 fn command_from<'a>(
