@@ -9,7 +9,7 @@ use Rattle.connections.specs.Versions.{Serving}
 use Rattle.connections.specs.Kinds.{Kind}
 use Rattle.connections.specs.declared.reloaded.Reloaded.{Reloaded}
 use Rattle.connections.specs.declared.reloaded.Reloaded.TheVariants as outcomes
-use Rattle.tpf_server.specs.Serving as core
+use Rattle.page_responses.specs.Serving as core
 use Rattle.tpf_server.specs.Conversation as conversations
 use Rattle.tpf_server.specs.declared.outcome.Reloaded as core_outcome
 use Rattle.tpf_server.specs.declared.outcome.Reloaded.TheVariants as core_outcomes

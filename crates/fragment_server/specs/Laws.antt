@@ -18,8 +18,8 @@ use Rattle.connections.specs.Versions.{IsHistory}
 use Rattle.connections.specs.Kinds.{BeginsResponse, Feeds, Fills, Grows, IsNoFailure, IsOutcome, IsWhole, Opens, Reads, Reloads}
 use Rattle.connections.specs.declared.reloaded.Reloaded.{Reloaded}
 use Rattle.connections.specs.declared.reloaded.Reloaded.TheVariants as outcomes
-use Rattle.tpf_server.specs.Serving as core
-use Rattle.tpf_server.specs.Serving.{IsHistoryOf}
+use Rattle.page_responses.specs.Serving as core
+use Rattle.page_responses.specs.Serving.{IsHistoryOf}
 use Rattle.tpf_server.specs.Read.{Stands, heads_then}
 use Rattle.tpf_server.specs.Reading.{is_ended, waits}
 use Rattle.tpf_server.specs.Reloads as core_outcomes

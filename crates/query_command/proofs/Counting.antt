@@ -27,7 +27,7 @@ use Rattle.data_files.proofs.Outcomes.{one_query}
 use Rattle.data_files.specs.Causes.{QueryDecides}
 use Rattle.data_files.proofs.Causes.{gives_query}
 use Rattle.file_server.specs.Servers.{serving}
-use Rattle.tpf_server.specs.Serving as core
+use Rattle.page_responses.specs.Serving as core
 use Rattle.triple_table.specs.Stored.{Stored, triples_in}
 use Rattle.query_command.specs.declared.fault.AnswerFault.{AnswerFault}
 use Rattle.query_command.specs.declared.fault.AnswerFault.TheVariants as faults

@@ -1,47 +1,39 @@
 -- What each call does to a conversation.
 use Rattle.std.proofs.Common.{◌≡◌, ℕ, zero, suc, ◌+◌, ◌-◌, ◌<◌, ◌≤◌, ◌⊎◌, Bool, true, false, List, [], ◌∷◌, ◌++◌, length, take, drop, Option, None, refl, ap, ap₂, sym, subst, ◌∙◌, inl, inr, arith, append_assoc, append-nil, length-append, length-drop, if◌then◌else◌}
 use Rattle.std.specs.Prelude.{nat_lt, ◌||◌, ◌&&◌, not, bytes_eq, codes}
-use Rattle.std.specs.List.{concat}
 use Rattle.std.proofs.lemmas.List.{drop-drop, take-append-drop}
-use Rattle.std.proofs.lemmas.Bool.{ltb-true, or_cases, or_parts, true≢false}
+use Rattle.std.proofs.lemmas.Bool.{or_cases, or_parts, true≢false}
 use Rattle.std.proofs.lemmas.Slice.Zip.{AllZip-long}
 use Rattle.rdf_terms.specs.declared.term.Triple.{Triple}
-use Rattle.rdf_terms.specs.declared.term.Quad.{Quad}
-use Rattle.rdf_terms.specs.Canon.{canonical_line}
 use Rattle.tpf_base.specs.declared.limits.TheConstants.{ENOUGH_PENDING}
 use Rattle.tpf_base.specs.HttpHeads.{Request, Verdict, Accepted}
 use Rattle.tpf_base.specs.HttpConnection.{heads_of}
 use Rattle.tpf_base.proofs.Heads.{no_request}
 use Rattle.http_wire.specs.Requests.{Held, fed, fed_to, holding}
 use Rattle.template_fill.specs.Metadata.{Config}
-use Rattle.template_fill.specs.Bodies.{in_default_graph}
 use Rattle.template_fill.specs.HttpAnswer.{Answer, answer_text, head_text}
 use Rattle.tpf_base.specs.Marks.{Mark, Served, version_at}
 use Rattle.template_fill.specs.Answers.{answer_to, is_reload, reload_answer, version_answer}
 use Rattle.template_fill.specs.Responses.{AreMarks, FitsHead, answering, answers, head_answer, reload_version, reload_versions}
 use Rattle.http_ends.proofs.Growing.{answers_append}
+use Rattle.page_responses.specs.declared.rest.Rest.{Rest}
+use Rattle.page_responses.specs.declared.rest.Rest.TheVariants.{Nothing}
+use Rattle.page_responses.specs.Statuses.{version_line}
+use Rattle.page_responses.specs.Serving.{Serving, IsHistoryOf, data_of}
+use Rattle.page_responses.specs.Rests.{IsWithin, is_left, rest_text}
+use Rattle.page_responses.proofs.LeftLaws.{long_rest}
 use Rattle.tpf_server.specs.declared.asked.Queued.{Queued}
 use Rattle.tpf_server.specs.declared.outcome.Reloaded.{Reloaded}
 use Rattle.tpf_server.specs.declared.outcome.Reloaded.TheVariants as outcomes
 use Rattle.tpf_server.specs.declared.reading.Reading.{Reading}
 use Rattle.tpf_server.specs.declared.reading.Reading.TheVariants.{Reads, Waits, Ended}
-use Rattle.tpf_server.specs.declared.rest.Rest.{Rest}
-use Rattle.tpf_server.specs.declared.rest.Rest.TheVariants.{Nothing, Line, Words, Page}
-use Rattle.tpf_server.specs.Statuses.{version_line}
-use Rattle.tpf_server.specs.Serving.{Serving, IsHistoryOf, data_of}
 use Rattle.tpf_server.specs.Asked.{answer_of}
-use Rattle.tpf_server.specs.Lines.{quad_lines, triple_line, triple_lines}
-use Rattle.tpf_server.specs.PageRests.{ArePart, PageLines, lines_left, page_left, page_text, triples_left, triples_of}
-use Rattle.tpf_server.specs.Rests.{IsWithin, is_left, rest_text}
 use Rattle.tpf_server.specs.Owed.{Fills, Fits, debt_left, debt_text, queue_text, queued_text}
 use Rattle.tpf_server.specs.Read.{ReadsHeads, Stands, served_marks}
 use Rattle.tpf_server.specs.Reading.{is_ended, waits, when_starved}
 use Rattle.tpf_server.specs.Reloads.{IsOutcome, ReadsOn, outcome_asking, outcome_mark, outcome_numbers, outcome_queued}
 use Rattle.tpf_server.specs.Conversation.{Answers, AreServed, Conversation, Feeds, Makes, ReadsFurther, Reloads, opening, owed_text, owes}
-use Rattle.tpf_server.proofs.LineLengths.{line_length}
 use Rattle.tpf_server.proofs.Readings.{queue_more}
-use Rattle.tpf_server.proofs.StatusLaws.{body_some}
-use Rattle.tpf_server.proofs.RestLaws.{lines_some, some_triples}
 use Rattle.tpf_server.proofs.DebtLaws.{debt_done, long_head}
 use Rattle.tpf_server.proofs.HeadsLaws.{ended_on, left_heads, reads_on, reload_ends, reload_goes, stands_kept, waits_on}
 use Rattle.tpf_server.proofs.MarkLaws.{AreAt, are_served, marked_before, marks_behind, numbers_append, numbers_front, plain_none, served_at, served_marked}
@@ -443,41 +435,6 @@ taken_is unread reading rest waiting bytes kept given left n starved old same k 
     ∙ ap (λ (c : Conversation). record c { pending = drop n c.pending }) same
 
 -- ---- something is owed
-
-long_first : (x : List ℕ) (xs : List (List ℕ)) → 0 < length x → 0 < length (concat (x ∷ xs))
-long_first x xs some = omega (arith, some, length-append x (concat xs))
-
-long_line : (q : Quad) → 0 < length (canonical_line q)
-long_line q = omega (arith, line_length q)
-
-long_triples : (triples : List Triple) → 0 < length triples → 0 < length (concat (triple_lines triples))
-long_triples [] some = absurd (omega arith)
-long_triples (t ∷ triples) some = long_first (triple_line t) (triple_lines triples) (long_line (in_default_graph t))
-
-long_lines : (page : PageLines) → ArePart page.table page.triples → lines_left page ≡ true → 0 < length (concat (triple_lines (triples_of page.table page.triples)) ++ concat (quad_lines page.quads))
-long_lines page part left =
-    let sum = length-append (concat (triple_lines (triples_of page.table page.triples))) (concat (quad_lines page.quads)) in
-    elim (or_cases (triples_left page.triples) (nat_lt 0 (length page.quads)) left) as (λ e. 0 < length (concat (triple_lines (triples_of page.table page.triples)) ++ concat (quad_lines page.quads))) [
-      | inl h ↦ omega (arith, sum, long_triples (triples_of page.table page.triples) (some_triples page.table page.triples part h))
-      | inr h ↦ omega (arith, sum, lines_some page.quads (ltb-true 0 (length page.quads) h))
-    ]
-
-long_page : (page : PageLines) → ArePart page.table page.triples → page_left page ≡ true → 0 < length (page_text page)
-unfolding page_text
-long_page page part left =
-    let lines = concat (triple_lines (triples_of page.table page.triples)) ++ concat (quad_lines page.quads) in
-    let sum = length-append page.begun lines in
-    elim (or_cases (nat_lt 0 (length page.begun)) (lines_left page) left) as (λ e. 0 < length (page.begun ++ lines)) [
-      | inl h ↦ omega (arith, sum, ltb-true 0 (length page.begun) h)
-      | inr h ↦ omega (arith, sum, long_lines page part h)
-    ]
-
-long_rest : (rest : Rest) → IsWithin rest → is_left rest ≡ true → 0 < length (rest_text rest)
-unfolding rest_text
-long_rest Nothing within left = absurd (true≢false (sym left))
-long_rest (Line status) within left = body_some status
-long_rest (Words text) within left = within.0
-long_rest (Page page) within left = long_page page within left
 
 long_answer : (config : Config) (queued : Queued) → 0 < length (queued_text config queued)
 unfolding answer_text

@@ -8,18 +8,19 @@ use Rattle.list_laws.proofs.Begins.{cut_back, same_begins}
 use Rattle.tpf_base.specs.declared.limits.TheConstants.{ENOUGH_PENDING}
 use Rattle.template_fill.specs.Metadata.{Config}
 use Rattle.template_fill.specs.HttpAnswer.{MediaType, answer_text, head_text}
-use Rattle.tpf_server.specs.declared.limits.TheConstants.{LONGEST_PART, MOST_PENDING}
+use Rattle.page_responses.specs.declared.limits.TheConstants.{LONGEST_PART}
+use Rattle.page_responses.specs.declared.pages.Opened.{Opened}
+use Rattle.page_responses.specs.declared.rest.Rest.{Rest}
+use Rattle.page_responses.specs.declared.rest.Rest.TheVariants.{Nothing}
+use Rattle.page_responses.specs.Statuses.{code, media_of}
+use Rattle.page_responses.specs.Given.{IsGiven}
+use Rattle.page_responses.specs.Rests.{IsWithin, is_left, rest_text}
+use Rattle.page_responses.proofs.RestLaws.{rest_done, no_length}
+use Rattle.tpf_server.specs.declared.limits.TheConstants.{MOST_PENDING}
 use Rattle.tpf_server.specs.declared.asked.Queued.{Queued}
-use Rattle.tpf_server.specs.declared.pages.Opened.{Opened}
-use Rattle.tpf_server.specs.declared.rest.Rest.{Rest}
-use Rattle.tpf_server.specs.declared.rest.Rest.TheVariants.{Nothing}
-use Rattle.tpf_server.specs.Statuses.{code, media_of}
 use Rattle.tpf_server.specs.Asked.{IsAsked}
-use Rattle.tpf_server.specs.Given.{IsGiven}
-use Rattle.tpf_server.specs.Rests.{IsWithin, is_left, rest_text}
 use Rattle.tpf_server.specs.Opened.{Opens}
 use Rattle.tpf_server.specs.Owed.{Fits, Fills, debt_left, debt_text, queue_text, queued_text}
-use Rattle.tpf_server.proofs.RestLaws.{rest_done, no_length}
 
 pub on_ok : {T E P Q : Type 0} (r : Result T E) → (P → Q) → OnOk r P → OnOk r Q
 on_ok (Ok x) f p = f p

@@ -22,10 +22,10 @@ use Rattle.template_fill.proofs.Histories.{last_served}
 use Rattle.tpf_base.specs.HttpConnection.{heads_of, last_head, with_head}
 use Rattle.template_fill.specs.Responses.{answering, head_answer}
 use Rattle.http_wire.proofs.ConnectionLemmas.{heads_at}
+use Rattle.page_responses.specs.Statuses.{code}
+use Rattle.page_responses.specs.Serving.{Serving, IsHistoryOf, data_of}
 use Rattle.tpf_server.specs.declared.asked.Asking.TheVariants as asks
 use Rattle.tpf_server.specs.declared.asked.Queued.{Queued}
-use Rattle.tpf_server.specs.Statuses.{code}
-use Rattle.tpf_server.specs.Serving.{Serving, IsHistoryOf, data_of}
 use Rattle.tpf_server.specs.Asked.{IsAsked, answer_at, answer_by, answer_for, answer_for_target, answer_of, body_at, is_head, is_other, page_answer_at, refused_with}
 use Rattle.tpf_server.specs.Owed.{queued_text}
 use Rattle.tpf_server.specs.Read.{IsAnswered, asks_for}

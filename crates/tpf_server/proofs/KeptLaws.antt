@@ -7,21 +7,21 @@ use Rattle.list_laws.proofs.Each.{all_append}
 use Rattle.tpf_base.specs.declared.limits.TheConstants.{ENOUGH_PENDING}
 use Rattle.http_wire.specs.Requests.{Held, holding}
 use Rattle.template_fill.specs.Metadata.{Config}
+use Rattle.page_responses.specs.declared.rest.Rest.{Rest}
+use Rattle.page_responses.specs.declared.rest.Rest.TheVariants.{Nothing}
+use Rattle.page_responses.specs.Serving.{Serving}
+use Rattle.page_responses.specs.Rests.{IsWithin}
 use Rattle.tpf_server.specs.declared.limits.TheConstants.{MOST_PENDING}
 use Rattle.tpf_server.specs.declared.asked.Queued.{Queued}
 use Rattle.tpf_server.specs.declared.outcome.Reloaded.{Reloaded}
 use Rattle.tpf_server.specs.declared.outcome.Reloaded.TheVariants as outcomes
 use Rattle.tpf_server.specs.declared.reading.Reading.{Reading}
 use Rattle.tpf_server.specs.declared.reading.Reading.TheVariants.{Reads, Waits, Ended}
-use Rattle.tpf_server.specs.declared.rest.Rest.{Rest}
-use Rattle.tpf_server.specs.declared.rest.Rest.TheVariants.{Nothing}
 use Rattle.tpf_server.specs.Asked.{IsAsked}
-use Rattle.tpf_server.specs.Serving.{Serving}
 use Rattle.tpf_server.specs.Owed.{Fills, Fits, debt_left, debt_text}
 use Rattle.tpf_server.specs.Read.{IsOpen, ReadsHeads}
 use Rattle.tpf_server.specs.Reading.{is_ended}
 use Rattle.tpf_server.specs.Reloads.{ReadsOn, outcome_asking, outcome_queued}
-use Rattle.tpf_server.specs.Rests.{IsWithin}
 use Rattle.tpf_server.specs.Conversation.{Conversation, Makes}
 use Rattle.tpf_server.proofs.ConversationLaws.{conversation, makes}
 

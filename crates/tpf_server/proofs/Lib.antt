@@ -3,15 +3,6 @@ pub mod RowLaws
 pub mod Gathered
 pub mod Targets
 pub mod Numbers
-pub mod LineLengths
-pub mod Appends
-pub mod PlainForms
-pub mod PartLaws
-pub mod GivenParts
-pub mod RestLaws
-pub mod StatusLaws
-pub mod HeadLaws
-pub mod PageLaws
 pub mod OpenLaws
 pub mod AskedLaws
 pub mod HeadAnswers

@@ -14,13 +14,13 @@ use Rattle.template_fill.specs.Metadata.{Config}
 use Rattle.tpf_base.specs.Marks.{Served}
 use Rattle.template_fill.specs.Responses.{Answering, answering, answers, asks_reload, head_answer}
 use Rattle.list_laws.proofs.Each.{all_append}
+use Rattle.page_responses.specs.Serving.{Serving, IsHistoryOf}
 use Rattle.tpf_server.specs.declared.asked.Queued.{Queued}
 use Rattle.tpf_server.specs.declared.outcome.Reloaded.{Reloaded}
 use Rattle.tpf_server.specs.declared.reading.Reading.{Reading}
 use Rattle.tpf_server.specs.declared.reading.HeadRead.{HeadRead}
 use Rattle.tpf_server.specs.declared.reading.HeadRead.TheVariants as reads
 use Rattle.tpf_server.specs.declared.reading.Reading.TheVariants.{Reads, Waits, Ended}
-use Rattle.tpf_server.specs.Serving.{Serving, IsHistoryOf}
 use Rattle.tpf_server.specs.Asked.{IsAsked}
 use Rattle.tpf_server.specs.Owed.{queue_text, queued_text}
 use Rattle.tpf_server.specs.Read.{ArePlain, IsAnswered, IsQueued, IsReload, ReadsHead, ReadsHeads, heads_then, served_marks}

@@ -1,39 +1,19 @@
 -- What is to be answered, and the answer.
-use Rattle.std.specs.Prelude.{ℕ, ◌≤◌, ◌==◌, Bool, true, false, List, ◌++◌, not, nat_le, map, length, bytes_eq, Option, Some, None, if◌then◌else◌}
-use Rattle.rdf_terms.specs.declared.term.Quad.{Quad}
-use Rattle.rdf_terms.specs.Selections.{Selection, selected, selected_last, selected_page}
-use Rattle.rdf_terms.specs.Canon.{canon}
+use Rattle.std.specs.Prelude.{ℕ, ◌≤◌, ◌==◌, Bool, true, false, List, not, bytes_eq, Option, Some, None, if◌then◌else◌}
 use Rattle.template_fill.specs.ReadAddress.{path_of}
 use Rattle.template_fill.specs.Forms.{HasNoBlank}
-use Rattle.template_fill.specs.Metadata.{Config, page_metadata}
-use Rattle.template_fill.specs.Bodies.{in_default_graph}
-use Rattle.template_fill.specs.HttpAnswer.{Answer, NQuads, refusal, text_answer}
+use Rattle.template_fill.specs.Metadata.{Config}
+use Rattle.template_fill.specs.HttpAnswer.{Answer, refusal, text_answer}
 use Rattle.template_fill.specs.Answers.{Question, question_of}
 use Rattle.http_wire.specs.declared.message.Asked.{Asked}
 use Rattle.http_wire.specs.declared.message.Asked.TheVariants.{Get, Head, Other}
-use Rattle.tpf_server.specs.declared.status.Status.{Status}
-use Rattle.tpf_server.specs.declared.status.Status.TheVariants.{BadRequest, HeaderFieldsTooLarge}
+use Rattle.page_responses.specs.declared.status.Status.{Status}
+use Rattle.page_responses.specs.declared.status.Status.TheVariants.{BadRequest, HeaderFieldsTooLarge}
+use Rattle.page_responses.specs.Statuses.{code, version_line}
+use Rattle.page_responses.specs.Serving.{Serving, served}
+use Rattle.page_responses.specs.Pages.{page_answer_at}
 use Rattle.tpf_server.specs.declared.asked.Asking.{Asking}
 use Rattle.tpf_server.specs.declared.asked.Asking.TheVariants.{Refused, Reloaded, Page}
-use Rattle.tpf_server.specs.Statuses.{code, version_line}
-use Rattle.tpf_server.specs.Serving.{Serving, served, data_of}
-
--- the quads of a page, over the data that are served
-abbrev pub quads_at : Serving → Selection → ℕ → List Quad
-quads_at server s page =
-    map in_default_graph (selected_page (data_of server) s page server.config.page_size)
-    ++ page_metadata server.config s page (length (selected (data_of server) s)) server.version
-
--- the body of a page
-unfoldable pub body_at : Serving → Selection → ℕ → List ℕ
-body_at server s page = canon (quads_at server s page)
-
--- the page that is asked for, or that it is past the last
-abbrev pub page_answer_at : Serving → Selection → ℕ → Answer
-page_answer_at server s page =
-    if nat_le page (selected_last (data_of server) s server.config.page_size)
-    then record { status = 200; media_type = NQuads; body = body_at server s page }
-    else refusal 404
 
 abbrev pub answer_by : Serving → Option Question → Answer
 answer_by server None = refusal 400

@@ -8,13 +8,13 @@ use Rattle.tpf_base.specs.HttpConnection.{heads_of}
 use Rattle.template_fill.specs.Metadata.{Config}
 use Rattle.tpf_base.specs.Marks.{Mark, Served}
 use Rattle.template_fill.specs.Responses.{AreMarks, answering, answers, reload_versions}
+use Rattle.page_responses.specs.declared.rest.Rest.{Rest}
+use Rattle.page_responses.specs.declared.rest.Rest.TheVariants.{Nothing}
+use Rattle.page_responses.specs.Serving.{Serving, IsHistoryOf}
 use Rattle.tpf_server.specs.declared.asked.Queued.{Queued}
 use Rattle.tpf_server.specs.declared.outcome.Reloaded.{Reloaded}
 use Rattle.tpf_server.specs.declared.reading.Reading.{Reading}
 use Rattle.tpf_server.specs.declared.reading.Reading.TheVariants.{Reads}
-use Rattle.tpf_server.specs.declared.rest.Rest.{Rest}
-use Rattle.tpf_server.specs.declared.rest.Rest.TheVariants.{Nothing}
-use Rattle.tpf_server.specs.Serving.{Serving, IsHistoryOf}
 use Rattle.tpf_server.specs.Owed.{debt_left, debt_text}
 use Rattle.tpf_server.specs.Read.{Stands}
 use Rattle.tpf_server.specs.Reading.{is_ended, waits, when_starved}

@@ -1,15 +1,8 @@
 pub mod Asked
 pub mod Conversation
-pub mod Given
-pub mod Lines
 pub mod Opened
 pub mod Owed
-pub mod PageRests
-pub mod Parts
 pub mod Parameters
 pub mod Read
 pub mod Reading
 pub mod Reloads
-pub mod Rests
-pub mod Serving
-pub mod Statuses

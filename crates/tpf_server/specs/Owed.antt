@@ -3,11 +3,11 @@ use Rattle.std.specs.Prelude.{ℕ, ◌-◌, ◌≡◌, ◌≤◌, ◌||◌, Bool
 use Rattle.std.specs.List.{AllByRecursion, flat_map}
 use Rattle.template_fill.specs.Metadata.{Config}
 use Rattle.template_fill.specs.HttpAnswer.{answer_text}
+use Rattle.page_responses.specs.declared.rest.Rest.{Rest}
+use Rattle.page_responses.specs.Rests.{IsWithin, is_left, rest_text}
 use Rattle.tpf_server.specs.declared.limits.TheConstants.{MOST_PENDING}
 use Rattle.tpf_server.specs.declared.asked.Queued.{Queued}
-use Rattle.tpf_server.specs.declared.rest.Rest.{Rest}
 use Rattle.tpf_server.specs.Asked.{IsAsked, answer_of}
-use Rattle.tpf_server.specs.Rests.{IsWithin, is_left, rest_text}
 
 -- the text of an answer that is not begun
 abbrev pub queued_text : Config → Queued → List ℕ

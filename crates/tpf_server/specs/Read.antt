@@ -11,12 +11,12 @@ use Rattle.template_fill.specs.Metadata.{Config}
 use Rattle.tpf_base.specs.Marks.{Mark, Served}
 use Rattle.template_fill.specs.Answers.{is_path_of_reload, is_reload}
 use Rattle.template_fill.specs.Responses.{answering, answers, asks_reload, head_answer}
+use Rattle.page_responses.specs.Serving.{Serving, IsHistoryOf}
 use Rattle.tpf_server.specs.declared.asked.Queued.{Queued}
 use Rattle.tpf_server.specs.declared.reading.Reading.{Reading}
 use Rattle.tpf_server.specs.declared.reading.Reading.TheVariants.{Reads, Waits, Ended}
 use Rattle.tpf_server.specs.declared.reading.HeadRead.{HeadRead}
 use Rattle.tpf_server.specs.declared.reading.HeadRead.TheVariants.{Nothing, Answered, Reload}
-use Rattle.tpf_server.specs.Serving.{Serving, IsHistoryOf}
 use Rattle.tpf_server.specs.Asked.{IsAsked, answer_for, answer_of, is_head, is_other}
 use Rattle.tpf_server.specs.Owed.{queue_text, queued_text}
 

@@ -2,15 +2,15 @@
 use Rattle.std.specs.Prelude.{ℕ, ◌≡◌, Bool, true, false, List, [], ◌∷◌, ◌++◌}
 use Rattle.http_wire.specs.Requests.{Held}
 use Rattle.tpf_base.specs.Marks.{Mark, Served, Failed, Starved}
+use Rattle.page_responses.specs.declared.status.Status.TheVariants.{InternalServerError, ServiceUnavailable}
+use Rattle.page_responses.specs.Serving.{Serving}
 use Rattle.tpf_server.specs.declared.asked.Asking.{Asking}
 use Rattle.tpf_server.specs.declared.asked.Asking.TheVariants as asks
 use Rattle.tpf_server.specs.declared.asked.Queued.{Queued}
 use Rattle.tpf_server.specs.declared.outcome.Reloaded.{Reloaded}
 use Rattle.tpf_server.specs.declared.outcome.Reloaded.TheVariants as outcomes
-use Rattle.tpf_server.specs.declared.status.Status.TheVariants.{InternalServerError, ServiceUnavailable}
 use Rattle.tpf_server.specs.declared.reading.Reading.{Reading}
 use Rattle.tpf_server.specs.declared.reading.Reading.TheVariants.{Ended}
-use Rattle.tpf_server.specs.Serving.{Serving}
 use Rattle.tpf_server.specs.Read.{ReadsHeads}
 
 -- a version that was reached is the one that is served

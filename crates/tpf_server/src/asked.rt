@@ -1,5 +1,5 @@
 // What a request asks for.
-ghost use Rattle.std.specs.Prelude.{◌≡◌, ◌≤◌, ◌+◌, ◌^◌, ◌&&◌, ℕ, Some, None, bytes_eq, drop, length, is_some, IfOk, [], true, false};
+ghost use Rattle.std.specs.Prelude.{◌≡◌, ◌≤◌, ◌+◌, ◌^◌, ◌&&◌, ℕ, Some, bytes_eq, drop, length, is_some, IfOk, [], true, false};
 ghost use Rattle.template_fill.specs.ReadAddress.{path_of};
 ghost use Rattle.template_fill.specs.Answers.{is_path_of_reload};
 ghost use Rattle.tpf_server.specs.Parameters.{page_in, question_in, rows_in};
@@ -10,9 +10,8 @@ use crate::Server;
 use crate::outcome::Reloaded;
 use crate::parameters::{PageNumber, Parameters, found_in, page, path_length, slots};
 use crate::rows::{RowValues, Rows};
-use crate::snapshot::Snapshot;
-use crate::status::Status;
 use http_wire::{Asked, RequestHead};
+use page_responses::{Snapshot, Status};
 use rdf_terms::Slots;
 use std::alloc::Global;
 use tpf_base::OutOfMemory;

@@ -12,11 +12,11 @@ ghost use Rattle.tpf_server.specs.Reloads.{IsOutcome};
 ghost use Rattle.tpf_server.specs.Conversation.{Answers, Conversation, Feeds, Makes, Reloads, closing, opening, owed_text, owes, starved_at, wants_reload};
 
 use crate::Server;
-use crate::limits::LONGEST_PART;
 use crate::outcome::Reloaded;
 use crate::owed::Debt;
 use crate::reading::Reading;
 use http_wire::RequestFeed;
+use page_responses::LONGEST_PART;
 use std::alloc::Global;
 use std::marker::Model;
 use std::mem;

@@ -1,6 +1,6 @@
 //! A server of Triple Pattern Fragments from bytes to bytes: the response to what a connection brings.
-//! Where its configuration reads rows, a request may restrict a fragment by up to 64 of them (brTPF), and
-//! is answered with what they leave, page by page.
+//! Where its configuration reads rows, a request may restrict a fragment by up to `MOST_ROWS` (64) of
+//! them (brTPF), and is answered with what they leave, page by page.
 //!
 //! A request comes, and the first page of all triples is made and taken:
 //!
@@ -17,22 +17,15 @@
 
 mod asked;
 mod connection;
-mod head;
 mod limits;
-mod lines;
 mod outcome;
 mod owed;
-mod pages;
 mod parameters;
-mod parts;
 mod reading;
-mod rest;
 mod rows;
 mod server;
-mod snapshot;
-mod status;
 
 pub use connection::Connection;
-pub use limits::{LONGEST_PART, MOST_PENDING, PART};
+pub use limits::MOST_PENDING;
 pub use outcome::Reloaded;
 pub use server::Server;

@@ -1,12 +1,8 @@
-//! The limits that definitions here name. They are this project's own.
+//! The limit that definitions here name. It is this project's own.
 
-/// The most bytes of a part of a response. A buffer of as many is kept while nothing is owed on a
-/// connection: a page of a hundred triples has its place there.
-pub const LONGEST_PART: usize = 16384;
+use page_responses::LONGEST_PART;
+use tpf_base::ENOUGH_PENDING;
 
-/// How many bytes of a long line's source are written in one part: each is written as at most two.
-pub const PART: usize = 8192;
-
-/// The most bytes that are pending on a connection at any time: one fewer than `ENOUGH_PENDING`, and
-/// one part.
-pub const MOST_PENDING: usize = 81919;
+/// The most bytes that are pending on a connection at any time, 81919: one fewer than `ENOUGH_PENDING`,
+/// and one part.
+pub const MOST_PENDING: usize = ENOUGH_PENDING - 1 + LONGEST_PART;

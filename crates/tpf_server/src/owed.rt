@@ -1,24 +1,23 @@
 // What is owed on a connection: the rest of an answer that was begun, and the answers behind it.
-ghost use Rattle.std.specs.Prelude.{ℕ, ◌≡◌, ◌⊎◌, ◌-◌, ◌≤◌, [], true, false, None, length, take, IfOk, OnOk, OnErr, if◌then◌else◌};
+ghost use Rattle.std.specs.Prelude.{◌≡◌, ◌⊎◌, ◌-◌, ◌≤◌, [], true, false, None, length, take, IfOk, OnOk, OnErr, if◌then◌else◌};
 ghost use Rattle.list_laws.specs.Begins.{Begins};
 ghost use Rattle.tpf_base.specs.declared.limits.TheConstants.{ENOUGH_PENDING};
+ghost use Rattle.page_responses.specs.Given.{IsGiven};
+ghost use Rattle.page_responses.specs.Rests.{IsWithin, rest_text};
 ghost use Rattle.tpf_server.specs.declared.limits.TheConstants.{MOST_PENDING};
 ghost use Rattle.tpf_server.specs.Asked.{IsAsked};
-ghost use Rattle.tpf_server.specs.Given.{IsGiven};
-ghost use Rattle.tpf_server.specs.Rests.{IsWithin, rest_text};
+ghost use Rattle.tpf_server.specs.Opened.{Opens};
 ghost use Rattle.tpf_server.specs.Owed.{Fits, Fills, debt_left, debt_text, queued_text};
 ghost use Rattle.tpf_server.specs.Read.{IsQueued, ReadsHead, ReadsHeads};
 ghost use Rattle.tpf_server.specs.Reloads.{ReadsOn};
 
 use crate::Server;
-use crate::asked::{Queued, asked_by, asks_reload, refusal_of, reload_answer};
-use crate::head::write_answer_head;
+use crate::asked::{Asking, Queued, asked_by, asks_reload, refusal_of, reload_answer};
 use crate::outcome::Reloaded;
-use crate::pages::open_answer;
 use crate::reading::{HeadRead, Reading};
-use crate::rest::Rest;
 use http_wire::{NextHead, RequestFeed, RequestHead};
 use hydra_controls::Config;
+use page_responses::{Opened, Rest, open_selected, open_status, open_version, write_answer_head};
 use std::alloc::Global;
 use std::collections::VecDeque;
 use tpf_base::{ENOUGH_PENDING, OutOfMemory};
@@ -52,6 +51,24 @@ fn taken_back(
         out.truncate(before);
     }
     written
+}
+
+/// The answer to what is asked for.
+#[tactic(auto, using(crate::proofs::OpenLaws::opens_refused, crate::proofs::OpenLaws::opens_version, crate::proofs::OpenLaws::opens_number))]
+fn open_answer(alloc: Global, config: &Config, asking: &Asking) -> Result<Opened, OutOfMemory>
+    requires { IsAsked asking.now }
+    ensures { IfOk result (Opens config.now asking.now) }
+{
+    match asking {
+        Asking::Refused(status) => Ok(open_status(*status)),
+        Asking::Reloaded(number) => open_version(alloc, *number),
+        Asking::Page {
+            slots,
+            rows,
+            page,
+            snapshot,
+        } => open_selected(alloc, config, snapshot, slots, rows.as_slice(), *page),
+    }
 }
 
 /// Appends the head of an answer, and tells what its body is.

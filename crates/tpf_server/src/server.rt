@@ -1,10 +1,11 @@
 // The data and the configuration of a server.
 ghost use Rattle.std.specs.Prelude.{◌≡◌, ◌≤◌, ◌<◌, ◌+◌, IfOk, OnErr};
-ghost use Rattle.template_fill.specs.Configurations.{IsConfig, IsValidDataSet, most_versions};
-ghost use Rattle.tpf_server.specs.Serving.{current, data_of};
+ghost use Rattle.tpf_base.specs.declared.limits.TheConstants.{HIGHEST_NUMBER};
+ghost use Rattle.template_fill.specs.Configurations.{IsConfig, IsValidDataSet};
+ghost use Rattle.page_responses.specs.Serving.{current, data_of};
 
-use crate::snapshot::Snapshot;
 use hydra_controls::Config;
+use page_responses::Snapshot;
 use std::alloc::Global;
 use std::marker::Model;
 use tpf_base::OutOfMemory;
@@ -12,7 +13,7 @@ use triple_table::Table;
 
 /// A server of the fragments of a table, whose data may be replaced: each data set that it serves is a
 /// numbered version. Contracts see it as the table, the configuration and the number of the version,
-/// which is 1 to 9999999999999999999.
+/// which is 1 to `HIGHEST_NUMBER` (9999999999999999999).
 #[derive(Drop)]
 pub struct Server {
     alloc: Global,
@@ -22,14 +23,14 @@ pub struct Server {
 
 impl Model for Server {
     ghost use Rattle.std.specs.Prelude.{◌≤◌};
-    ghost use Rattle.template_fill.specs.Configurations.{most_versions};
-    ghost use Rattle.tpf_server.specs.Serving.{Serving};
+    ghost use Rattle.tpf_base.specs.declared.limits.TheConstants.{HIGHEST_NUMBER};
+    ghost use Rattle.page_responses.specs.Serving.{Serving};
 
     ghost Value = { Serving };
 
     ghost view = { λ s. record { table = s.snapshot.table; config = s.config; version = s.snapshot.number } };
 
-    ghost invariant = { λ s. (1 ≤ s.snapshot.number) × (s.snapshot.number ≤ most_versions) };
+    ghost invariant = { λ s. (1 ≤ s.snapshot.number) × (s.snapshot.number ≤ HIGHEST_NUMBER) };
 }
 
 impl Server {
@@ -51,17 +52,17 @@ impl Server {
     pub fn version(&self) -> u64
         ensures version { result ≡ self.now.version }
         ensures low { 1 ≤ result }
-        ensures high { result ≤ most_versions }
+        ensures high { result ≤ HIGHEST_NUMBER }
     {
         self.snapshot.number()
     }
 
     /// Serves this table as the next version, and gives its number. Answers that were read before keep
-    /// their own version. The version is below 9999999999999999999.
+    /// their own version. The version is below `HIGHEST_NUMBER` (9999999999999999999).
     ///
     /// `OutOfMemory` comes only where memory runs out; the server is then as before.
     pub fn reload(&mut self, table: Table) -> Result<u64, OutOfMemory>
-        requires { self.old.version < most_versions }
+        requires { self.old.version < HIGHEST_NUMBER }
         ensures number { IfOk result (λ number. number ≡ self.old.version + 1) }
         ensures ok { IfOk result (λ number. self.new ≡ record self.old { table = table; version = number }) }
         ensures err { OnErr result (self.new ≡ self.old) }

@@ -1,5 +1,5 @@
 use Rattle.std.proofs.Common.{subst}
-use Rattle.tpf_server.specs.Serving.{Serving}
+use Rattle.page_responses.specs.Serving.{Serving}
 use Rattle.tpf_server.specs.Conversation.{Feeds}
 use Rattle.fragment_server.specs.Laws.{feeds_as}
 use Rattle.fragment_server.proofs.connection.FragmentConnectionConverses.feed.Goals as goal

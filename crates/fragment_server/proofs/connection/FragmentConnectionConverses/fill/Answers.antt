@@ -2,7 +2,7 @@ use Rattle.std.specs.Prelude.{ℕ, List}
 use Rattle.std.proofs.Common.{subst}
 use Rattle.rdf_terms.specs.declared.term.Triple.{Triple}
 use Rattle.tpf_base.specs.Marks.{Mark}
-use Rattle.tpf_server.specs.Serving.{Serving}
+use Rattle.page_responses.specs.Serving.{Serving}
 use Rattle.tpf_server.specs.Conversation.{Answers, Makes}
 use Rattle.fragment_server.specs.Laws.{fills_as}
 use Rattle.fragment_server.proofs.connection.FragmentConnectionConverses.fill.Goals as goal

@@ -1,5 +1,5 @@
 use Rattle.std.proofs.Common.{subst}
-use Rattle.tpf_server.specs.Serving.{Serving}
+use Rattle.page_responses.specs.Serving.{Serving}
 use Rattle.tpf_server.specs.Conversation.{Reloads}
 use Rattle.tpf_server.specs.declared.outcome.Reloaded.{Reloaded}
 use Rattle.fragment_server.specs.Fragments.{outcome_of}

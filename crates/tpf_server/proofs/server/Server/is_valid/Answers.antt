@@ -1,7 +1,7 @@
 use Rattle.std.proofs.Common.{subst}
 use Rattle.triple_table.specs.Stored.{Stored, triples_in}
 use Rattle.template_fill.specs.Configurations.{IsValidDataSet}
-use Rattle.tpf_server.specs.Serving.{Serving, data_of}
+use Rattle.page_responses.specs.Serving.{Serving, data_of}
 use Rattle.tpf_server.proofs.server.Server.is_valid.Goals as goal
 
 pub returns-clause-data_set : goal.returns-clause-data_set

@@ -1,0 +1,11 @@
+pub mod LineLengths
+pub mod Appends
+pub mod PlainForms
+pub mod PartLaws
+pub mod GivenParts
+pub mod RestLaws
+pub mod StatusLaws
+pub mod HeadLaws
+pub mod PageLaws
+pub mod OpenLaws
+pub mod LeftLaws

@@ -1,0 +1,16 @@
+use Rattle.std.proofs.Common.{List, length, ap, arith}
+use Rattle.triple_table.specs.declared.ids.IdTriple.{IdTriple}
+use Rattle.page_responses.specs.Serving.{served}
+use Rattle.page_responses.proofs.OpenLaws.{listed_few, opens_listed}
+use Rattle.page_responses.proofs.pages.open_listed.Goals as goal
+
+pub listed_length-bytes-requires-clause-few : goal.listed_length-bytes-requires-clause-few
+listed_length-bytes-requires-clause-few c =
+    let few = listed_few (served c.args.snapshot.now c.args.config.now) c.args.slots.now c.args.rows.now c.args.number c.args.page c.requires.page in
+    omega (arith, few, ap (λ (l : List IdTriple). length l) c.as_slice.ensures.value, c.page_size-size.ensures.size, c.page_size-size.ensures.valid.high)
+
+pub returns : goal.returns
+returns c =
+    opens_listed (served c.args.snapshot.now c.args.config.now) c.args.slots.now c.args.number c.number-version.result c.listed_length-bytes.result c.in_ok-metadata.metadata c.open_lines.result c.number-version.ensures
+    c.args.rows.now c.args.page c.table.result.now c.as_slice.result.now c.table.ensures c.as_slice.ensures.value c.requires.page
+    c.in_ok-metadata.ensures c.listed_length-bytes.ensures.length c.open_lines.ensures

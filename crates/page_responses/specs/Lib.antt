@@ -1,0 +1,9 @@
+pub mod Given
+pub mod Lines
+pub mod Opened
+pub mod PageRests
+pub mod Pages
+pub mod Parts
+pub mod Rests
+pub mod Serving
+pub mod Statuses

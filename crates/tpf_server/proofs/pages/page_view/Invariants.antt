@@ -1,4 +1,0 @@
-use Rattle.tpf_server.proofs.pages.page_view.Given as goal
-
-abbrev pub ghosts-counted_page : goal.ghosts-counted_page
-ghosts-counted_page a = record { name = a.blank.name; parts = a.blank.parts }

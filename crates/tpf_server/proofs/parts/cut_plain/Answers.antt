@@ -1,6 +1,0 @@
-use Rattle.tpf_server.proofs.DebtLaws.{on_ok}
-use Rattle.tpf_server.proofs.PartLaws.{plain_cuts}
-use Rattle.tpf_server.proofs.parts.cut_plain.Goals as goal
-
-pub returns-clause-ok : goal.returns-clause-ok
-returns-clause-ok c = on_ok c.push.result (plain_cuts c.args.cut.now c.push.new.self c.args.text.now c.args.out.now.items c.push.new.out.items) c.push.ensures.ok
