@@ -1,5 +1,5 @@
 -- What is said of a page, over texts in place of addresses.
-use Rattle.std.proofs.Common.{◌≡◌, ℕ, ◌+◌, ◌-◌, nat_lt, List, ◌++◌, refl}
+use Rattle.std.proofs.Common.{◌≡◌, ℕ, ◌+◌, ◌-◌, nat_lt, ◌++◌, refl}
 use Rattle.std.specs.Prelude.{codes}
 use Rattle.rdf_terms.specs.Selections.{Selection}
 use Rattle.rdf_terms.specs.Fragments.{last_page_of}

@@ -1,7 +1,6 @@
 -- A body is one page, or has one first fault.
 use Rattle.std.proofs.Common.{ℕ, ◌≡◌, ◌<◌, Bool, true, false, cond, nat_eq, ltb, List, refl, sym, ap, subst, ◌∙◌, arith, inl, inr, Result, Ok, Err}
 use Rattle.rdf_terms.specs.declared.term.Quad.{Quad}
-use Rattle.rdf_terms.specs.declared.term.Triple.{Triple}
 use Rattle.rdf_terms.specs.declared.limits.TheConstants.{LONGEST_READ}
 use Rattle.nquads_text.proofs.ReadLaws.{reads_text, not_both}
 use Rattle.tpf_base.specs.Addresses.{Address, address_text, authority_of}
@@ -16,8 +15,6 @@ use Rattle.control_reader.specs.Takes.{IsBody, HasControls, Takes, Finds, IsWron
 use Rattle.page_controls.specs.Faults.{HasForeignLink, place_of}
 use Rattle.page_controls.specs.Outcomes.{Answers, IsFaultOf}
 use Rattle.control_reader.specs.Outcomes.{IsPageOrMemory, IsFaultOrMemory}
-use Rattle.control_reader.specs.Blanks.{TakesTriples}
-use Rattle.control_reader.specs.Takes.{WhyNoBody}
 use Rattle.page_controls.specs.Stages.{IsAmiss, FirstAmiss, TakesPage, WhyNoPage}
 use Rattle.page_controls.proofs.Topics.{one_topic}
 use Rattle.page_controls.proofs.Fine.{one_count, count_there, count_good, one_least, one_form, form_there, form_good, one_version, one_next, next_one, next_home, form_home, earlier}
@@ -128,9 +125,6 @@ module _ (bytes : List ℕ) (address : Address) where
     first = λ other l. no_wrong quads topic c other (h.first other l);
   }
 
-  no_body : (fault : PageFault) → fault ≡ faults.Text → IsWrong bytes address faults.Text → Faults bytes address fault
-  no_body fault e w = subst (Faults bytes address) (sym e) record { wrong = w; first = λ other l. absurd (omega arith) }
-
   only_text : (quads : List Quad) → IsBody bytes quads → (other : PageFault) → place_of other < 1 → IsWrong bytes address other → ⊥
   only_text quads body faults.Text l w = not_both LONGEST_READ bytes quads w.0 w.1 body w.2
   only_text quads body faults.NoTopic l w = absurd (omega arith)
@@ -142,10 +136,6 @@ module _ (bytes : List ℕ) (address : Address) where
   only_text quads body faults.ForeignLink l w = absurd (omega arith)
   only_text quads body faults.BlankData l w = absurd (omega arith)
   only_text quads body faults.OutOfMemory l w = absurd (omega arith)
-
-  pub body_fault : (fault : PageFault) → IsFaultOf (WhyNoBody bytes) fault → IsFaultOf (Faults bytes address) fault
-  body_fault fault (inl e) = inl e
-  body_fault fault (inr h) = inr (no_body fault h.0 h.1)
 
   pub page_fault : (quads : List Quad) (fault : PageFault) → IsBody bytes quads → IsFaultOf (WhyNoPage quads address) fault → IsFaultOf (Faults bytes address) fault
   page_fault quads fault body (inl e) = inl e
@@ -166,28 +156,6 @@ module _ (bytes : List ℕ) (address : Address) where
   data_fault quads told fault body page (inl e) = inl e
   data_fault quads told fault body page (inr h) =
       inr (subst (Faults bytes address) (sym h.0) (first_fault quads page.topic record { body = body; is_topic = page.is_topic } faults.BlankData record { amiss = h.1; first = fine quads told page }))
-
-  pub takes_page : (quads : List Quad) (told : Told) (page : Page) → IsBody bytes quads → TakesPage quads address told → TakesTriples quads page.triples → page.count ≡ told.count → page.next ≡ told.next → page.form ≡ told.form → page.version ≡ told.version → Takes bytes address page
-  takes_page quads told page body taken triples n x f v =
-      let t = taken.controls in let form = t.form in
-      subst (Takes bytes address) (same_page page told page.triples refl n x f v) record {
-        quads = quads;
-        topic = taken.topic;
-        texts = form.texts;
-        controls = record { body = body; is_topic = taken.is_topic };
-        count = t.count;
-        least = form.least;
-        form = form.is_form;
-        next = t.next;
-        home = t.home;
-        version = t.version;
-        triples = triples.triples_are;
-        no_blank = triples.no_blank;
-      }
-    where
-      same_page : (page : Page) (told : Told) (triples : List Triple) → page.triples ≡ triples → page.count ≡ told.count → page.next ≡ told.next → page.form ≡ told.form → page.version ≡ told.version →
-          ◌≡◌ {A = Page} (record { triples = triples; count = told.count; next = told.next; form = told.form; version = told.version }) page
-      same_page page told triples t n x f v = sym (λ i. record { triples = t i; count = n i; next = x i; form = f i; version = v i })
 
   -- ---- exactly so
 

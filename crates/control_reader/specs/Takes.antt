@@ -1,15 +1,14 @@
 -- The page that a body gives, and the first reason why it gives none.
-use Rattle.std.specs.Prelude.{ℕ, ◌≡◌, ◌<◌, ◌⊎◌, List, Some}
+use Rattle.std.specs.Prelude.{ℕ, ◌≡◌, ◌<◌, List}
 use Rattle.rdf_terms.specs.declared.term.Quad.{Quad}
 use Rattle.rdf_terms.specs.declared.limits.TheConstants.{LONGEST_READ}
 use Rattle.nquads_text.specs.declared.fault.Why.{Why}
 use Rattle.nquads_text.specs.Reads.{Reads, FirstFault}
 use Rattle.tpf_base.specs.Addresses.{Address, address_text, authority_of}
-use Rattle.template_fill.specs.Templates.{Template, read_template}
 use Rattle.fragment_page.specs.declared.page.Page.{Page}
 use Rattle.fragment_page.specs.declared.page.PageFault.{PageFault}
 use Rattle.fragment_page.specs.declared.page.PageFault.TheVariants.{Text, NoTopic, NoCount, CountText, NoForm, BadTemplate, TwoNext, ForeignLink, BlankData, OutOfMemory}
-use Rattle.page_controls.specs.Controls.{IsTopic, HasNoTopic, IsCount, HasNoCount, HasBadCount, FormTexts, IsLeastForm, HasNoForm, IsFormOf, HasBadTemplate, IsNext, HasTwoNext, HasForeignNext, IsHome, IsForeign, IsVersion}
+use Rattle.page_controls.specs.Controls.{IsTopic, HasNoTopic, IsCount, HasNoCount, HasBadCount, FormTexts, IsLeastForm, HasNoForm, IsFormOf, HasBadTemplate, IsNext, HasTwoNext, IsHome, IsVersion}
 use Rattle.page_controls.specs.Contents.{page_triples, HasBlankData}
 use Rattle.page_controls.specs.Faults.{FindsForm, HasForeignLink, place_of}
 

@@ -1,5 +1,5 @@
 -- The fragment of slots by their ids.
-use Rattle.std.proofs.Common.{ℕ, ◌≡◌, ◌+◌, ◌-◌, ◌*◌, ◌≤◌, List, [], sym, ap, subst, ◌∙◌, length, take, drop, arith, min, None}
+use Rattle.std.proofs.Common.{◌≡◌, List, [], sym, subst, None}
 use Rattle.std.specs.List.{Contains}
 use Rattle.std.specs.List.Sorted.{IsStrictlySortedBy}
 use Rattle.list_laws.proofs.Members.{in_flat_map, none_in}
@@ -9,16 +9,14 @@ use Rattle.rdf_terms.specs.declared.slots.Slot.{Slot}
 use Rattle.rdf_terms.specs.declared.slots.Slot.TheVariants.{Any, Fixed}
 use Rattle.rdf_terms.specs.declared.slots.Slots.{Slots}
 use Rattle.rdf_terms.specs.Slots.{Matches, MatchesSlot}
-use Rattle.rdf_terms.specs.Fragments.{IsFragment, fragment, last_page, last_page_of}
+use Rattle.rdf_terms.specs.Fragments.{IsFragment, fragment}
 use Rattle.rdf_terms.proofs.FragmentLaws.{fragment_only}
 use Rattle.triple_table.specs.Served.{terms_in, terms_of}
-use Rattle.triple_table.specs.Stored.{Stored, IsRange, triples_in, listed, slots_at}
+use Rattle.triple_table.specs.Stored.{Stored, triples_in, listed, slots_at}
 use Rattle.triple_table.proofs.Built.{subject_in, predicate_in, object_in}
 use Rattle.triple_table.specs.declared.ids.Range.{Range}
 use Rattle.triple_table.specs.declared.ids.IdPattern.{IdPattern}
-use Rattle.fragment_pages.specs.Pages.{IsPage}
 use Rattle.fragment_pages.specs.SlotIds.{IsSlotId}
-use Rattle.fragment_pages.proofs.Counts.{part_is}
 
 -- ---- a term that is not held
 
@@ -51,21 +49,3 @@ pub nothing_listed : (triples : List Triple) (slots : Slots) → ((t : Triple) �
 nothing_listed triples slots h = fragment_only triples slots [] (empty_fragment triples slots h)
 
 -- ---- the page
-
-pub page_is : (s : Stored) (slots : Slots) (k size count last from to : ℕ) (range : Range) → IsRange s range → listed s range ≡ fragment (triples_in s) slots → count ≡ length (listed s range) → last ≡ last_page_of count size →
-    from ≡ (k - 1) * size → from ≤ count → to ≡ min (from + size) count → IsPage s slots k size record { range = range; from = from; to = to; count = count; last = last }
-page_is s slots k size count last from to range r f c l start within e = record {
-  range = r;
-  lists = f;
-  order = omega (arith, within, e);
-  within = omega (arith, e, c);
-  triples =
-      ap (λ n. take (n - from) (drop from (listed s range))) (e ∙ ap (λ n. min (from + size) n) c)
-      ∙ part_is (listed s range) from size (subst (λ n. from ≤ n) c within)
-      ∙ ap (λ xs. take size (drop from xs)) f ∙ ap (λ n. take size (drop n (fragment (triples_in s) slots))) start;
-  count = c ∙ ap length f;
-  last = l ∙ ap (λ n. last_page_of n size) (c ∙ ap length f);
-}
-
-pub number_of : (s : Stored) (slots : Slots) (k size count last : ℕ) (range : Range) → listed s range ≡ fragment (triples_in s) slots → count ≡ length (listed s range) → last ≡ last_page_of count size → last ≡ last_page (triples_in s) slots size
-number_of s slots k size count last range f c l = l ∙ ap (λ n. last_page_of n size) (c ∙ ap length f)

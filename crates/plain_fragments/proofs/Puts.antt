@@ -1,32 +1,18 @@
 -- Putting a triple at its place, and sorting from the back.
-use Rattle.std.proofs.Common.{ℕ, suc, ◌≡◌, ◌+◌, ◌-◌, ◌<◌, Bool, true, false, cond, if◌then◌else◌, List, [], ◌∷◌, ◌++◌, length, take, drop, get_or, refl, ap, sym, ◌∙◌, append_assoc, add-one, arith}
-use Rattle.std.proofs.Math.Seq.{drop-cons, take-suc}
+use Rattle.std.proofs.Common.{ℕ, suc, ◌≡◌, ◌+◌, ◌-◌, ◌<◌, Bool, true, false, cond, if◌then◌else◌, List, ◌∷◌, ◌++◌, length, take, drop, get_or, refl, ap, sym, ◌∙◌}
+use Rattle.std.proofs.Math.Seq.{drop-cons}
 use Rattle.std.specs.List.{filter}
 use Rattle.std.specs.declared.cmp.Ordering.{Ordering}
-use Rattle.std.specs.declared.cmp.Ordering.TheVariants.{Less, Equal, Greater}
+use Rattle.std.specs.declared.cmp.Ordering.TheVariants.{Less}
 use Rattle.rdf_terms.specs.declared.term.Triple.{Triple}
 use Rattle.rdf_terms.specs.Fragments.{put, put_by, sorted}
 
--- past a triple that comes before
-pub put_past : (order : Triple → Triple → Ordering) (x y : Triple) (all whole : List Triple) (i : ℕ) → i < length all → y ≡ get_or all i y → order x y ≡ Greater → whole ≡ take i all ++ put order x (drop i all) → whole ≡ take (i + 1) all ++ put order x (drop (i + 1) all)
-put_past order x y all whole i below at greater e =
-    let rest : drop i all ≡ y ∷ drop (suc i) all = drop-cons all i y below ∙ ap (λ (t : Triple). t ∷ drop (suc i) all) (sym at) in
-    let front : take (suc i) all ≡ take i all ++ y ∷ [] = take-suc all i y below ∙ ap (λ (t : Triple). take i all ++ t ∷ []) (sym at) in
-    let step : put order x (y ∷ drop (suc i) all) ≡ y ∷ put order x (drop (suc i) all) = ap (λ (o : Ordering). put_by o x y (drop (suc i) all) (put order x (drop (suc i) all))) greater in
-    rw (add-one, front, append_assoc) (e ∙ ap (λ (l : List Triple). take i all ++ put order x l) rest ∙ ap (λ (l : List Triple). take i all ++ l) step)
-
--- before a triple that comes behind, and at one that is the same
+-- before a triple that comes behind
 pub put_here : (order : Triple → Triple → Ordering) (x y : Triple) (all whole : List Triple) (i : ℕ) → i < length all → y ≡ get_or all i y → order x y ≡ Less → whole ≡ take i all ++ put order x (drop i all) → whole ≡ take i all ++ x ∷ drop i all
 put_here order x y all whole i below at less e =
     let rest : drop i all ≡ y ∷ drop (suc i) all = drop-cons all i y below ∙ ap (λ (t : Triple). t ∷ drop (suc i) all) (sym at) in
     let step : put order x (y ∷ drop (suc i) all) ≡ x ∷ y ∷ drop (suc i) all = ap (λ (o : Ordering). put_by o x y (drop (suc i) all) (put order x (drop (suc i) all))) less in
     e ∙ ap (λ (l : List Triple). take i all ++ put order x l) rest ∙ ap (λ (l : List Triple). take i all ++ l) step ∙ ap (λ (l : List Triple). take i all ++ x ∷ l) (sym rest)
-
-pub put_stands : (order : Triple → Triple → Ordering) (x y : Triple) (all whole : List Triple) (i : ℕ) → i < length all → y ≡ get_or all i y → order x y ≡ Equal → whole ≡ take i all ++ put order x (drop i all) → whole ≡ take i all ++ drop i all
-put_stands order x y all whole i below at equal e =
-    let rest : drop i all ≡ y ∷ drop (suc i) all = drop-cons all i y below ∙ ap (λ (t : Triple). t ∷ drop (suc i) all) (sym at) in
-    let step : put order x (y ∷ drop (suc i) all) ≡ y ∷ drop (suc i) all = ap (λ (o : Ordering). put_by o x y (drop (suc i) all) (put order x (drop (suc i) all))) equal in
-    e ∙ ap (λ (l : List Triple). take i all ++ put order x l) rest ∙ ap (λ (l : List Triple). take i all ++ l) step ∙ ap (λ (l : List Triple). take i all ++ l) (sym rest)
 
 -- one triple more, from the back
 pub sorted_step : (order : Triple → Triple → Ordering) (p : Triple → Bool) (all : List Triple) (k : ℕ) (t : Triple) (new old : List Triple) → k < length all → t ≡ get_or all k t → old ≡ sorted order (filter p (drop (suc k) all)) → new ≡ (if p t then put order t old else old) → new ≡ sorted order (filter p (drop k all))

@@ -1,7 +1,6 @@
 -- What is selected ascends and holds exactly the triples that match; no other list does.
 use Rattle.std.proofs.Common.{◌≡◌, ◌⊎◌, inl, inr, Bool, true, List, [], ◌∷◌, refl, ⊎_elim}
-use Rattle.std.specs.List.{Any, Contains, filter, list_any}
-use Rattle.std.specs.List.Sorted.{IsStrictlySortedBy}
+use Rattle.std.specs.List.{Any, Contains, filter}
 use Rattle.std.proofs.lemmas.List.Folds.{Any-from_list_any, list_any-from_Any}
 use Rattle.list_laws.proofs.Ascending.{strict_filter}
 use Rattle.list_laws.proofs.Members.{in_filter, from_filter, passed_filter}

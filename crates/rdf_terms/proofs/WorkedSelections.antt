@@ -8,7 +8,7 @@ use Rattle.rdf_terms.specs.declared.slots.Slot.TheVariants.{Any, Fixed}
 use Rattle.rdf_terms.specs.declared.slots.Slots.{Slots}
 use Rattle.rdf_terms.specs.Order.{term_order}
 use Rattle.rdf_terms.specs.Fragments.{fragment}
-use Rattle.rdf_terms.specs.Selections.{Selection, all_of, selected, selected_last, selected_page}
+use Rattle.rdf_terms.specs.Selections.{Selection, selected, selected_last, selected_page}
 
 -- ---- five terms and four triples, not in their order
 

@@ -1,8 +1,7 @@
 -- What rows leave of slots, by ids.
-use Rattle.std.proofs.Common.{ℕ, ◌≡◌, ◌++◌, Bool, false, ◌&&◌, ◌||◌, List, [], ◌∷◌, map, Option, Some, None, sym, ap, ◌∙◌}
+use Rattle.std.proofs.Common.{ℕ, ◌≡◌, ◌++◌, Bool, ◌&&◌, ◌||◌, List, [], ◌∷◌, map, Option, Some, None, ap, ◌∙◌}
 use Rattle.std.specs.List.{Contains}
-use Rattle.std.proofs.lemmas.List.Elements.{All-push}
-use Rattle.list_laws.proofs.Lists.{any_snoc, map_snoc}
+use Rattle.list_laws.proofs.Lists.{any_snoc}
 use Rattle.list_laws.proofs.Members.{Contains-map, any_of, in_flat_map}
 use Rattle.rdf_terms.specs.declared.term.Triple.{Triple}
 use Rattle.rdf_terms.specs.declared.slots.Slots.{Slots}
@@ -10,7 +9,7 @@ use Rattle.rdf_terms.specs.Slots.{matches, matches_slot}
 use Rattle.rdf_terms.specs.Selections.{matches_one}
 use Rattle.triple_table.specs.declared.ids.IdPattern.{IdPattern}
 use Rattle.triple_table.specs.Served.{terms_in}
-use Rattle.triple_table.specs.Stored.{Stored, IsIdPattern, slots_at, triples_in}
+use Rattle.triple_table.specs.Stored.{Stored, slots_at, triples_in}
 use Rattle.triple_table.proofs.Built.{subject_in, predicate_in, object_in}
 use Rattle.restricted_pages.proofs.Bools.{and_or, either, or_absorbed, place_by_place, second_false, third_false, three}
 use Rattle.restricted_pages.specs.Patterns.{IsJoined, IsJoinedId, ArePatternsOf, matches_pattern}
@@ -50,16 +49,6 @@ module _ (s : Stored) (slots row : Slots) (rows : List Slots) (ps : List IdPatte
   row_more b t held is =
       ap (λ m. matches slots t && m) (any_snoc (λ r. matches r t) rows row) ∙ and_or (matches slots t) (matches row t) (matches_one rows t)
       ∙ either (matches slots t && matches row t) (matches slots t && matches_one rows t) b (matches_pattern s ps t) is (h.same t held)
-
-  pub no_more : IsJoined s slots row None → ArePatternsOf s slots (rows ++ row ∷ []) ps
-  no_more never = record { ids = h.ids; same = λ t held. row_more false t held (never t held) }
-
-  pub one_more : (p : IdPattern) → IsJoined s slots row (Some p) → ArePatternsOf s slots (rows ++ row ∷ []) (ps ++ p ∷ [])
-  one_more p is = record {
-    ids = All-push (IsIdPattern s) ps p h.ids is.0;
-    same = λ t held. row_more (matches (slots_at s p) t) t held (is.1 t)
-        ∙ sym (ap (λ l. matches_one l t) (map_snoc (slots_at s) ps p) ∙ any_snoc (λ r. matches r t) (map (slots_at s) ps) (slots_at s p));
-  }
 
   pub there_before : (p : IdPattern) → Contains ps p → IsJoined s slots row (Some p) → ArePatternsOf s slots (rows ++ row ∷ []) ps
   there_before p found is = record {

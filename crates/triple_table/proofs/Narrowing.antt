@@ -11,16 +11,6 @@ pub record Narrowed {X : Type 0} (before behind : X → Type 0) (xs : List X) (l
   pub counted : start ≤ now
   pub enough : (digits : ℕ) → length xs < 2 ^ digits → (e : ℕ) × (now + e ≤ start + digits) × (high - low < 2 ^ e)
 
-pub narrow_start : {X : Type 0} (before behind : X → Type 0) (xs : List X) (start : ℕ) → Narrowed before behind xs 0 (length xs) start start
-narrow_start before behind xs start = record {
-  order = omega arith;
-  within = omega arith;
-  below = λ k d l. absurd (omega arith);
-  above = λ k d l m. absurd (omega arith);
-  counted = omega arith;
-  enough = λ digits l. (digits, omega arith, omega arith);
-}
-
 -- one step of a number of steps that is enough
 one_less : (e size half : ℕ) → size < 2 ^ e → half * 2 + 1 ≤ size + 1 → 0 < size → (f : ℕ) × (f + 1 ≡ e) × (half < 2 ^ f)
 one_less zero size half l m s = absurd (omega arith)
@@ -59,13 +49,3 @@ narrow_down before behind xs low high start n middle h l m fits =
       counted = omega (arith, counted);
       enough = spend (high - low) (middle - low) n start (λ digits. length xs < 2 ^ digits) (omega (arith, m, l)) (omega (arith, l)) h.enough;
     }
-
--- with nothing left, so many steps were taken at most
-pub narrow_cost : {X : Type 0} (before behind : X → Type 0) (xs : List X) (low high start n : ℕ) → Narrowed before behind xs low high start n → (digits : ℕ) → length xs < 2 ^ digits → n ≤ start + digits
-narrow_cost before behind xs low high start n h digits l = let e = h.enough digits l in let a = e.1 in omega (arith, a)
-
--- before a step is taken with something left, one fewer
-pub narrow_more : {X : Type 0} (before behind : X → Type 0) (xs : List X) (low high start n : ℕ) → Narrowed before behind xs low high start n → low < high → (digits : ℕ) → length xs < 2 ^ digits → n + 1 ≤ start + digits
-narrow_more before behind xs low high start n h l digits m =
-    let e = spend (high - low) 0 n start (λ digits. length xs < 2 ^ digits) (omega arith) (omega (arith, l)) h.enough digits m in
-    let a = e.1 in omega (arith, a)

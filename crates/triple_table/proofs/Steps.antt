@@ -6,7 +6,6 @@ use Rattle.std.proofs.lemmas.List.{take_more, map-append}
 use Rattle.std.proofs.lemmas.List.Concat.{flat_map-append}
 use Rattle.std.proofs.lemmas.List.Elements.{filter-append, filter_map-append}
 use Rattle.rdf_terms.specs.declared.term.Term.{Term}
-use Rattle.rdf_terms.specs.declared.term.Triple.{Triple}
 use Rattle.rdf_terms.specs.declared.term.Quad.{Quad}
 use Rattle.triple_table.specs.declared.choice.Choice.{Choice}
 use Rattle.triple_table.specs.Chosen.{is_chosen, chosen}
@@ -22,12 +21,6 @@ chosen_more choice quads i quad l e =
     ap (chosen choice) (take_more quads i quad l)
     ∙ chosen-append choice (take i quads) (get_or quads i quad ∷ [])
     ∙ ap (λ q. chosen choice (take i quads) ++ chosen choice (q ∷ [])) (sym e)
-
--- the triples, and then what each is turned to
-pub mapped_more : {X : Type 0} (f : Triple → X) (done : List X) (choice : Choice) (quads : List Quad) (i : ℕ) (quad : Quad) → i < length quads → quad ≡ get_or quads i quad →
-    done ≡ map f (chosen choice (take i quads)) → done ++ map f (chosen choice (quad ∷ [])) ≡ map f (chosen choice (take (i + 1) quads))
-mapped_more f done choice quads i quad l e h =
-    ap (λ xs. xs ++ map f (chosen choice (quad ∷ []))) h ∙ sym (ap (map f) (chosen_more choice quads i quad l e) ∙ map-append f _ _)
 
 pub terms_more : (choice : Choice) (quads : List Quad) (i : ℕ) (quad : Quad) → i < length quads → quad ≡ get_or quads i quad →
     terms_of (chosen choice (take (i + 1) quads)) ≡ terms_of (chosen choice (take i quads)) ++ terms_of (chosen choice (quad ∷ []))

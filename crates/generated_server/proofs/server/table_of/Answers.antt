@@ -1,4 +1,4 @@
-use Rattle.std.proofs.Common.{◌≡◌, ◌∙◌, List, ℕ, IfOk, ap, subst}
+use Rattle.std.proofs.Common.{◌∙◌, List, ℕ, IfOk, ap, subst}
 use Rattle.tpf_base.specs.Addresses.{Address, authority_of}
 use Rattle.triple_table.specs.declared.choice.Choice.TheVariants.{DefaultGraph}
 use Rattle.triple_table.specs.Chosen.{chosen}

@@ -1,4 +1,4 @@
-use Rattle.std.proofs.Common.{ℕ, ◌≡◌, ◌<◌, ◌-◌, ◌+◌, suc, List, length, drop, sym, ◌∙◌, ap, arith, rules}
+use Rattle.std.proofs.Common.{◌≡◌, ◌<◌, ◌-◌, ◌+◌, suc, length, drop, ◌∙◌, ap, arith, rules}
 use Rattle.std.specs.List.{filter}
 use Rattle.rdf_terms.specs.Slots.{order_of, matches}
 use Rattle.rdf_terms.specs.Fragments.{sorted}

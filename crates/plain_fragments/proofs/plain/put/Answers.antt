@@ -1,5 +1,4 @@
-use Rattle.std.proofs.Common.{ℕ, ◌≡◌, ◌<◌, List, length, ap, sym, ◌∙◌, arith, rules}
-use Rattle.std.proofs.lemmas.Grind.{common_steps}
+use Rattle.std.proofs.Common.{◌<◌, length, ap, sym, ◌∙◌, rules}
 use Rattle.rdf_terms.specs.Slots.{order_of}
 use Rattle.rdf_terms.specs.Fragments.{put}
 use Rattle.plain_fragments.proofs.Puts.{put_here}
