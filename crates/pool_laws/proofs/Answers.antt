@@ -4,6 +4,7 @@ use Rattle.std.specs.Prelude.{◌^◌}
 use Rattle.std.specs.List.{AllByRecursion}
 use Rattle.std.proofs.lemmas.Bool.{cases_lt}
 use Rattle.rdf_terms.specs.declared.term.Triple.{Triple}
+use Rattle.tpf_base.specs.declared.limits.TheConstants.{HEAD_LIMIT}
 use Rattle.tpf_base.specs.Addresses.{Address}
 use Rattle.tpf_base.specs.HttpReply.{ReplyFault, TooLong, More, Whole, Bad, reply_of}
 use Rattle.tpf_base.specs.Links.{All, Tells, WireState, IsToldBy, told_by, some_left}
@@ -15,39 +16,20 @@ use Rattle.template_fill.specs.HttpAnswer.{Answer, answer_text}
 use Rattle.template_fill.specs.Metadata.{Config}
 use Rattle.template_fill.specs.Answers.{answer_to}
 use Rattle.template_fill.specs.Responses.{Answering, answering, response_by, IsMarkedBy, IsVersion, IsHonestAt}
-use Rattle.http_ends.specs.Requests.{request_for, asks, AddressesArePlain}
-use Rattle.http_ends.specs.Answers.{AnswersAreRead, LongHeadsAreRefused, HeadsAreShort, AnswersHaveStatus, PagesAreNQuads, ServerAnswersAreRead, ReadingsStay}
-use Rattle.http_ends.specs.Cuts.{Answered, RequestIsSent, ResponseIsCut, RepliesAreCut, NextAnswerIsCut, sent_for, bytes_of, sent_of, received_of}
+use Rattle.http_ends.specs.Requests.{request_for, asks}
+use Rattle.http_ends.specs.Cuts.{Answered, sent_for, bytes_of, sent_of, received_of}
 use Rattle.http_ends.proofs.Answers.{status_case}
 use Rattle.pool_laws.specs.Honest.{IsAnsweredByAll}
 use Rattle.request_pool.specs.declared.fault.PoolFault.TheVariants as faults
 use Rattle.list_laws.proofs.Each.{all_last, all_always}
 use Rattle.pool_laws.proofs.HonestLemmas.{no_reload, over_version}
+use Rattle.pool_laws.specs.Ends.{EndsAreTrue}
 use Rattle.pool_laws.specs.Following.{IsWebAddress, IsReplied}
 use Rattle.pool_laws.specs.Causes.{RepliedOn}
 use Rattle.pool_laws.specs.Answers.{TellsAll, IsHonestOver, IsBodyOf, IsBodyOver, HasLongBody, IsLongPage, IsRefusedOver, RepliesAreAnswers, RefusalsAreTooLong, CutsAreFaults}
 use Rattle.pool_laws.proofs.WholeReplies.{status_is, page_body_is, page_refusal, page_is_long, other_refusal, left_some, rest_some, too_long, refusal_some}
 use Rattle.pool_laws.proofs.LongRequests.{before_answered, next_short, next_refused}
 use Rattle.pool_laws.proofs.Causes.{replies_are_read, faults_have_causes}
-
--- the laws of the two ends
-pub record EndsAreTrue : Type 0 where
-  pub plain : AddressesArePlain
-  pub reads : AnswersAreRead
-  pub long : LongHeadsAreRefused
-  pub short : HeadsAreShort
-  pub status : AnswersHaveStatus
-  pub server : ServerAnswersAreRead
-  pub pages : PagesAreNQuads
-  pub sends : RequestIsSent
-  pub responses : ResponseIsCut
-  pub replies : RepliesAreCut
-  pub next : NextAnswerIsCut
-  pub stays : ReadingsStay
-
-pub ends : AddressesArePlain → AnswersAreRead → LongHeadsAreRefused → HeadsAreShort → AnswersHaveStatus → ServerAnswersAreRead → PagesAreNQuads → RequestIsSent → ResponseIsCut → RepliesAreCut → NextAnswerIsCut → ReadingsStay → EndsAreTrue
-ends plain reads long short status server pages sends responses replies next stays =
-    record { plain = plain; reads = reads; long = long; short = short; status = status; server = server; pages = pages; sends = sends; responses = responses; replies = replies; next = next; stays = stays }
 
 -- ---- what was received on one link
 
@@ -129,7 +111,7 @@ last_served : (served : ℕ → Bool) (marks first : List Mark) (mark : Mark) �
 last_served served marks first mark split are = all_last (λ (m : Mark). served (version_at m) ≡ true) first mark (subst (λ (l : List Mark). AllByRecursion (λ m. served (version_at m) ≡ true) l) split are)
 
 module _ (laws : EndsAreTrue) (history : List (List Triple)) (config : Config) (limit : ℕ) (address : Address) (received : List ℕ) (is : IsWebAddress address) where
-  next_is : (before : List Answered) (owed had : Option (List ℕ)) → AllByRecursion (IsReplied limit) before → length (request_for address) ≤ 4194304 → (o : IsOwed history config before address received owed had) → IsAnswer history config o.marks address (received ++ o.rest)
+  next_is : (before : List Answered) (owed had : Option (List ℕ)) → AllByRecursion (IsReplied limit) before → length (request_for address) ≤ HEAD_LIMIT → (o : IsOwed history config before address received owed had) → IsAnswer history config o.marks address (received ++ o.rest)
   next_is before owed had replied short o =
       let server = answering history config in
       let statuses = laws.status history config in
@@ -145,7 +127,7 @@ module _ (laws : EndsAreTrue) (history : List (List Triple)) (config : Config) (
 
   -- a request that a whole reply follows is within the limit
   whole_short : (before : List Answered) (owed had : Option (List ℕ)) (body : List ℕ) (n : ℕ) (keeps at_end : Bool) → AllByRecursion (IsReplied limit) before → IsOwed history config before address received owed had
-      → reply_of received at_end limit ≡ Whole body n keeps → length (request_for address) ≤ 4194304
+      → reply_of received at_end limit ≡ Whole body n keeps → length (request_for address) ≤ HEAD_LIMIT
   whole_short before owed had body n keeps at_end replied o whole =
       let server = answering history config in
       let statuses = laws.status history config in
@@ -188,7 +170,7 @@ module _ (laws : EndsAreTrue) (history : List (List Triple)) (config : Config) (
   ok_at : IsAnsweredByAll history config address → (mark : Mark) → IsVersion (length history) mark → (answer_to history mark config (asks address)).status ≡ 200
   ok_at every mark version = ap (λ (a : Answer). a.status) (over_version history mark config address) ∙ every (version_at mark) version.low version.high
 
-  refused_why : limit < 2 ^ 64 → (before : List Answered) (owed had : Option (List ℕ)) (why : ReplyFault) → AllByRecursion (IsReplied limit) before → (o : IsOwed history config before address received owed had) → length (request_for address) ≤ 4194304
+  refused_why : limit < 2 ^ 64 → (before : List Answered) (owed had : Option (List ℕ)) (why : ReplyFault) → AllByRecursion (IsReplied limit) before → (o : IsOwed history config before address received owed had) → length (request_for address) ≤ HEAD_LIMIT
       → IsAnsweredByAll history config address → reply_of received false limit ≡ Bad why → why ≡ TooLong
   refused_why small before owed had why replied o short every bad =
       let a = next_is before owed had replied short o in
@@ -197,7 +179,7 @@ module _ (laws : EndsAreTrue) (history : List (List Triple)) (config : Config) (
       let page = laws.pages history a.mark config (asks address) (no_reload config address) ok in
       page_refusal limit answer (received ++ o.rest) why (laws.server limit history a.mark config (asks address) false small) ok page a.same ((laws.stays limit received).bad why bad o.rest false)
 
-  refused_long : limit < 2 ^ 64 → (before : List Answered) (owed had : Option (List ℕ)) (why : ReplyFault) → AllByRecursion (IsReplied limit) before → (o : IsOwed history config before address received owed had) → length (request_for address) ≤ 4194304
+  refused_long : limit < 2 ^ 64 → (before : List Answered) (owed had : Option (List ℕ)) (why : ReplyFault) → AllByRecursion (IsReplied limit) before → (o : IsOwed history config before address received owed had) → length (request_for address) ≤ HEAD_LIMIT
       → IsAnsweredByAll history config address → reply_of received false limit ≡ Bad why → HasLongBody history config limit address received
   refused_long small before owed had why replied o short every bad =
       let a = next_is before owed had replied short o in
@@ -248,7 +230,7 @@ module _ (laws : EndsAreTrue) (history : List (List Triple)) (config : Config) (
       }
 
   refused_over : limit < 2 ^ 64 → (served : ℕ → Bool) (before : List Answered) (owed had : Option (List ℕ)) (why : ReplyFault) → AllByRecursion (IsReplied limit) before → IsOwedOver history config served before address received owed had
-      → length (request_for address) ≤ 4194304 → reply_of received false limit ≡ Bad why → IsRefusedOver history config served limit (shown_fault why) address received
+      → length (request_for address) ≤ HEAD_LIMIT → reply_of received false limit ≡ Bad why → IsRefusedOver history config served limit (shown_fault why) address received
   refused_over small served before owed had why replied o short bad =
       let a = next_is before owed had replied short o.is_owed in
       let answer = answer_to history a.mark config (asks address) in
@@ -265,14 +247,14 @@ module _ (laws : EndsAreTrue) (history : List (List Triple)) (config : Config) (
   -- ---- a cut
 
   -- what is owed to a request past the limit is its refusal
-  refusal_is : (before : List Answered) (owed had : Option (List ℕ)) → AllByRecursion (IsReplied limit) before → 4194304 < length (request_for address) → (o : IsOwed history config before address received owed had) → received ++ o.rest ≡ answer_text too_long false true
+  refusal_is : (before : List Answered) (owed had : Option (List ℕ)) → AllByRecursion (IsReplied limit) before → HEAD_LIMIT < length (request_for address) → (o : IsOwed history config before address received owed had) → received ++ o.rest ≡ answer_text too_long false true
   refusal_is before owed had replied long o =
       let server = answering history config in
       let statuses = laws.status history config in
       let are = before_answered laws.plain laws.reads laws.short limit server laws.sends laws.replies statuses o.marks before (request_for address) (received ++ o.rest) replied o.marked o.same in
       next_refused laws.plain laws.reads laws.short limit server laws.sends laws.replies statuses o.marks laws.responses before address (received ++ o.rest) is long are o.marked o.same
 
-  cut_answer : (at_end : Bool) → limit < 2 ^ 64 → (before : List Answered) (owed had : Option (List ℕ)) → AllByRecursion (IsReplied limit) before → IsOwed history config before address received owed had → length (request_for address) ≤ 4194304
+  cut_answer : (at_end : Bool) → limit < 2 ^ 64 → (before : List Answered) (owed had : Option (List ℕ)) → AllByRecursion (IsReplied limit) before → IsOwed history config before address received owed had → length (request_for address) ≤ HEAD_LIMIT
       → reply_of received at_end limit ≡ More → some_left had owed ≡ true
   cut_answer at_end small before owed had replied o short more =
       let a = next_is before owed had replied short o in
@@ -285,7 +267,7 @@ module _ (laws : EndsAreTrue) (history : List (List Triple)) (config : Config) (
   pub cut_short : (at_end : Bool) → limit < 2 ^ 64 → (before : List Answered) (owed had : Option (List ℕ)) → AllByRecursion (IsReplied limit) before → IsOwed history config before address received owed had
       → reply_of received at_end limit ≡ More → some_left had owed ≡ true
   cut_short at_end small before owed had replied o more =
-      elim (cases_lt 4194304 (length (request_for address))) [
+      elim (cases_lt HEAD_LIMIT (length (request_for address))) [
         | inr short ↦ cut_answer at_end small before owed had replied o short more
         | inl long ↦ left_some owed had o.all o.rest o.is_had o.is_owed (refusal_some laws.reads laws.short limit at_end received o.rest (refusal_is before owed had replied long o) more)
       ]

@@ -9,6 +9,7 @@ use Rattle.tpf_base.specs.Addresses.{Address}
 use Rattle.tpf_base.specs.Causes.{Rose}
 use Rattle.tpf_base.specs.HttpReply.{reply_of}
 use Rattle.tpf_base.specs.Links.{Nature, WireState, OpensGiven, told_by}
+use Rattle.tpf_base.specs.declared.wire.TheConstants.{MOST_IDLE}
 use Rattle.http_wire.specs.declared.message.Reply.{Reply}
 use Rattle.template_fill.specs.Authorities.{AuthoritiesAreHostsAndPorts}
 use Rattle.tpf_base.specs.Sending.{Holds}
@@ -103,7 +104,7 @@ data FaultBy (start : ℕ → Type 0) (fault : PoolFault) (was : List Ask) (q : 
   ByBudget : fault ≡ faults.Budget → IsOverBudget q → FaultBy start fault was q n b
   ByMemory : fault ≡ faults.OutOfMemory → FaultBy start fault was q n b
   ByFlight : Flown start fault was q n b → FaultBy start fault was q n b
-  ByStall : (fault ≡ faults.OutOfMemory) ⊎ (fault ≡ faults.Stalled) → 1000 ≤ b.idle → FaultBy start fault was q n b
+  ByStall : (fault ≡ faults.OutOfMemory) ⊎ (fault ≡ faults.Stalled) → MOST_IDLE ≤ b.idle → FaultBy start fault was q n b
   ByWait : (fault ≡ faults.OutOfMemory) ⊎ (fault ≡ faults.Exchange) → Rose n b.faults → FaultBy start fault was q n b
 
 pub shut_idle : (o : Option ℕ) (a b : WireState) → Shuts o a b → b.idle ≡ a.idle

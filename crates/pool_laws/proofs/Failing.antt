@@ -8,6 +8,7 @@ use Rattle.futures.specs.declared.task.Poll.TheVariants as poll
 use Rattle.tpf_base.specs.Addresses.{Address}
 use Rattle.tpf_base.specs.Causes.{Rose}
 use Rattle.tpf_base.specs.Links.{Link, WireState, OpensGiven}
+use Rattle.tpf_base.specs.declared.wire.TheConstants.{MOST_IDLE}
 use Rattle.tpf_base.specs.declared.fault.Fault.{Fault}
 use Rattle.tpf_base.specs.declared.fault.Fault.TheVariants as wires
 use Rattle.tpf_base.specs.declared.wire.Ready.{Ready}
@@ -503,7 +504,7 @@ module _ (since : WireState) where
           };
         }) u.to
 
-    waits_after : (result : Result Stepped PoolFault) (p q : Pooled) (a b : WireState) → SuitsWire p a → p.retries ≡ retries → Failing p a → b.idle < 1000 → WaitsTo result p q a b → After result q b
+    waits_after : (result : Result Stepped PoolFault) (p q : Pooled) (a b : WireState) → SuitsWire p a → p.retries ≡ retries → Failing p a → b.idle < MOST_IDLE → WaitsTo result p q a b → After result q b
     waits_after result p q a b s same h few (Passes ready e w i f) = after_as result (Ok Waited) q b e (record { failing = failing_as p q b b f refl (waited_failing (Ok ready) p a b s h w); fault = tt })
     waits_after result p q a b s same h few (Stalls ready mid w i u) = absurd (omega (arith, i, few, shut_idle u.f.exchange.link mid b u.shuts))
     waits_after result p q a b s same h few (Misses mid w u) = misses_after result p q a mid b s same h w u
@@ -511,7 +512,7 @@ module _ (since : WireState) where
 
     -- ---- a step
 
-    in_wait : (result : Result Stepped PoolFault) (p q : Pooled) (a b : WireState) → OpensGiven a → SuitsWire p a → p.retries ≡ retries → Failing p a → b.idle < 1000 → EndsInWait result p q a b → After result q b
+    in_wait : (result : Result Stepped PoolFault) (p q : Pooled) (a b : WireState) → OpensGiven a → SuitsWire p a → p.retries ≡ retries → Failing p a → b.idle < MOST_IDLE → EndsInWait result p q a b → After result q b
     in_wait result p q a b g s same h few e =
         let r : Pooled = e.line in
         let suits = suits_lined p e.line a e.lines s in
@@ -530,7 +531,7 @@ module _ (since : WireState) where
           fault = last_ends fault e.mid q e.between b f.given f.suits (ap (λ (x : Pooled). x.retries) (runs_bounds e.running.moments r e.mid a e.between e.running.runs ∙ lines_bounds p e.line e.lines) ∙ same) mid e.last;
         }
 
-    breaks_after : (fault : PoolFault) (p q : Pooled) (a b : WireState) → OpensGiven a → SuitsWire p a → p.retries ≡ retries → Failing p a → b.idle < 1000 → EndsInFault fault p q a b → After (Err fault) q b
+    breaks_after : (fault : PoolFault) (p q : Pooled) (a b : WireState) → OpensGiven a → SuitsWire p a → p.retries ≡ retries → Failing p a → b.idle < MOST_IDLE → EndsInFault fault p q a b → After (Err fault) q b
     breaks_after fault p q a b g s same h few (AtOnce e f i) = record { failing = failing_as p q a b f i h; fault = other_ends fault faults.OutOfMemory b e tt }
     breaks_after fault p q a b g s same h few (InRun e) = in_run fault p q a b g s same h e
     breaks_after fault p q a b g s same h few (InWait e) = in_wait (Err fault) p q a b g s same h few e
@@ -543,7 +544,7 @@ module _ (since : WireState) where
         let mid = running_keeps Failing failing_is_kept r e.mid a e.between g suits (in_line (λ (x : Pooled). Failing x a) p e.line e.lines (gathered_failing p a h) h) e.running in
         last_keeps Failing failing_is_kept (Ok (polls.Came ticket address answer)) e.mid q e.between b f.given f.suits mid e.last
 
-    step_after : (result : Result Stepped PoolFault) (p q : Pooled) (a b : WireState) → OpensGiven a → SuitsWire p a → p.retries ≡ retries → Failing p a → b.idle < 1000 → StepsTo result p q a b → After result q b
+    step_after : (result : Result Stepped PoolFault) (p q : Pooled) (a b : WireState) → OpensGiven a → SuitsWire p a → p.retries ≡ retries → Failing p a → b.idle < MOST_IDLE → StepsTo result p q a b → After result q b
     step_after (Ok Idle) p q a b g s same h few t = record { failing = failing_as p q a b t.1 t.2 h; fault = tt }
     step_after (Ok (Came ticket address answer)) p q a b g s same h few t = record { failing = in_came ticket address answer p q a b g s h t; fault = tt }
     step_after (Ok Waited) p q a b g s same h few t = in_wait (Ok Waited) p q a b g s same h few t

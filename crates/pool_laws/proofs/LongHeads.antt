@@ -2,9 +2,10 @@
 use Rattle.std.proofs.Common.{◌≡◌, ℕ, ◌+◌, ◌<◌, Bool, true, false, List, [], ◌∷◌, ◌++◌, length, refl, sym, ap, if◌then◌else◌, ◌∙◌, arith, append_assoc, length-append, inl, inr}
 use Rattle.std.specs.Prelude.{◌⊎◌, codes, nat_le, nat_lt}
 use Rattle.httparse.specs.Grammar.{is_token_byte, trim_ows}
+use Rattle.tpf_base.specs.declared.limits.TheConstants.{HEADS_LIMIT, MOST_FIELDS}
 use Rattle.tpf_base.specs.Decimals.{digits_up_to, decimal_text}
 use Rattle.tpf_base.specs.HttpHeads.{ends_empty, field_lines}
-use Rattle.tpf_base.specs.HttpReply.{Place, InHeads, Failed, BadHead, TooLong, Reading, More, Whole, Bad, one_more, heads_limit, head_place, response_head, after_head_byte, reading_from, reply_of}
+use Rattle.tpf_base.specs.HttpReply.{Place, InHeads, Failed, BadHead, TooLong, Reading, More, Whole, Bad, one_more, head_place, response_head, after_head_byte, reading_from, reply_of}
 use Rattle.http_wire.proofs.RunLemmas.{over_reading, open_reading}
 use Rattle.template_fill.specs.HttpAnswer.{NQuads, head_text, answer_fields, phrase}
 use Rattle.http_ends.proofs.Answers.{length_whole}
@@ -35,10 +36,10 @@ one_none : (r : Reading) → IsNone r → IsNone (one_more r)
 one_none r (inl is) = inl (ap one_more is)
 one_none r (inr is) = inr (ap one_more is)
 
-unended : (limit : ℕ) (head : List ℕ) → ends_empty head (length head) ≡ false → after_head_byte limit 0 head ≡ (if nat_le heads_limit (0 + length head) then Failed TooLong else InHeads 0 head)
+unended : (limit : ℕ) (head : List ℕ) → ends_empty head (length head) ≡ false → after_head_byte limit 0 head ≡ (if nat_le HEADS_LIMIT (0 + length head) then Failed TooLong else InHeads 0 head)
 unfolding after_head_byte
 unended limit head early =
-    ap (λ (v : Bool). if v then (if nat_lt 64 (field_lines head) then Failed BadHead else head_place limit (0 + length head) (response_head head)) else (if nat_le heads_limit (0 + length head) then Failed TooLong else InHeads 0 head)) early
+    ap (λ (v : Bool). if v then (if nat_lt MOST_FIELDS (field_lines head) then Failed BadHead else head_place limit (0 + length head) (response_head head)) else (if nat_le HEADS_LIMIT (0 + length head) then Failed TooLong else InHeads 0 head)) early
 
 next_none : (limit : ℕ) (head xs : List ℕ) (at_end v : Bool) → IsNone (reading_from limit (InHeads 0 head) xs at_end) → IsNone (reading_from limit (if v then Failed TooLong else InHeads 0 head) xs at_end)
 next_none limit head xs at_end true go = inr (over_reading limit (Failed TooLong) xs at_end refl)
@@ -60,7 +61,7 @@ part_none limit text once seen (b ∷ xs) rest at_end is some =
     as_none (reading_from limit (InHeads 0 seen) (b ∷ xs) at_end) (one_more (reading_from limit (after_head_byte limit 0 (seen ++ b ∷ [])) xs at_end)) (open_reading limit (InHeads 0 seen) b xs at_end refl)
     (one_none (reading_from limit (after_head_byte limit 0 (seen ++ b ∷ [])) xs at_end)
     (as_none _ _ (ap (λ (p : Place). reading_from limit p xs at_end) (unended limit (seen ++ b ∷ []) early))
-    (next_none limit (seen ++ b ∷ []) xs at_end (nat_le heads_limit (0 + length (seen ++ b ∷ []))) (part_none limit text once (seen ++ b ∷ []) xs rest at_end split some))))
+    (next_none limit (seen ++ b ∷ []) xs at_end (nat_le HEADS_LIMIT (0 + length (seen ++ b ∷ []))) (part_none limit text once (seen ++ b ∷ []) xs rest at_end split some))))
 
 none_whole : (r : Reading) (body : List ℕ) (n : ℕ) (keeps : Bool) → IsNone r → r ≡ Whole body n keeps → ⊥
 none_whole r body n keeps (inl is) w = cc

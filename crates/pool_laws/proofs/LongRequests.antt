@@ -3,6 +3,7 @@ use Rattle.std.proofs.Common.{append-nil, ◌≡◌, ℕ, ◌+◌, ◌<◌, ◌�
 use Rattle.std.specs.List.{AllByRecursion}
 use Rattle.std.proofs.lemmas.Bool.{cases_lt}
 use Rattle.std.proofs.lemmas.List.{length-map}
+use Rattle.tpf_base.specs.declared.limits.TheConstants.{HEAD_LIMIT}
 use Rattle.tpf_base.specs.Addresses.{Address, authority_of, target_of}
 use Rattle.tpf_base.specs.HttpHeads.{Rejected, NextRequest, Refused, next_request, blank_length}
 use Rattle.tpf_base.specs.HttpReply.{Whole, reply_of}
@@ -31,18 +32,18 @@ blank_none address = refl
 request_once : AddressesArePlain → (address : Address) → IsWebAddress address → EndsOnce (request_for address)
 request_once plain address is = let p = plain is.0 address is.1 in request_ends (authority_of address) (target_of address) p.authority p.target
 
-long_next : AddressesArePlain → (address : Address) (more : List ℕ) → IsWebAddress address → 4194304 < length (request_for address) → next_request (request_for address ++ more) ≡ Refused 431
+long_next : AddressesArePlain → (address : Address) (more : List ℕ) → IsWebAddress address → HEAD_LIMIT < length (request_for address) → next_request (request_for address ++ more) ≡ Refused 431
 long_next plain address more is long =
     refused_stays (request_for address) more 431
     (next_long (request_for address) 0 (Some (length (request_for address))) (length (request_for address)) (sym (blank_none address)) (sym (head_is_all (request_for address) (request_once plain address is))) refl (omega (arith, long)))
 
 -- nothing behind it is read
-long_heads : AddressesArePlain → (address : Address) (more : List ℕ) → IsWebAddress address → 4194304 < length (request_for address) → heads_of (request_for address ++ more) ≡ last_head (Rejected 431)
+long_heads : AddressesArePlain → (address : Address) (more : List ℕ) → IsWebAddress address → HEAD_LIMIT < length (request_for address) → heads_of (request_for address ++ more) ≡ last_head (Rejected 431)
 long_heads plain address more is long =
     heads_read (request_for address ++ more)
     ∙ ap (λ (n : NextRequest). heads_from (request_for address ++ more) n (heads_of (after_taken (request_for address ++ more) n))) (long_next plain address more is long)
 
-long_response : AddressesArePlain → (server : Answering) (address : Address) (more : List ℕ) (marks : List Mark) → IsWebAddress address → 4194304 < length (request_for address)
+long_response : AddressesArePlain → (server : Answering) (address : Address) (more : List ℕ) (marks : List Mark) → IsWebAddress address → HEAD_LIMIT < length (request_for address)
     → response_by server (request_for address ++ more) marks ≡ answers server (Rejected 431 ∷ []) marks
 unfolding response_by
 long_response plain server address more marks is long = ap (λ (h : Heads). answers server h.heads marks) (long_heads plain address more is long)
@@ -53,7 +54,7 @@ module _ (plain : AddressesArePlain) (reads : AnswersAreRead) (shorts : HeadsAre
   refusal_case (m ∷ marks) received rest body n keeps at_end whole is = no_too_long reads shorts limit received rest body n keeps at_end whole (sym (append-nil (answer_text too_long false true)) ∙ sym is)
 
   -- no whole reply stands at the front of the response to it
-  pub long_none : (address : Address) (more : List ℕ) (marks : List Mark) (received rest body : List ℕ) (n : ℕ) (keeps at_end : Bool) → IsWebAddress address → 4194304 < length (request_for address)
+  pub long_none : (address : Address) (more : List ℕ) (marks : List Mark) (received rest body : List ℕ) (n : ℕ) (keeps at_end : Bool) → IsWebAddress address → HEAD_LIMIT < length (request_for address)
       → reply_of received at_end limit ≡ Whole body n keeps → received ++ rest ≡ response_by server (request_for address ++ more) marks → ⊥
   long_none address more marks received rest body n keeps at_end is long whole same =
       refusal_case marks received rest body n keeps at_end whole (same ∙ long_response plain server address more marks is long)
@@ -66,7 +67,7 @@ module _ (plain : AddressesArePlain) (reads : AnswersAreRead) (shorts : HeadsAre
   -- ---- so each request that was answered by a whole reply is within the limit
 
   module _ (sends : RequestIsSent) (cut : RepliesAreCut) (statuses : HasStatuses server) (marks : List Mark) where
-    answered_by : (x : Answered) → IsReplied limit x → (r : (a : Address) × IsWebAddress a × (x.sent ≡ sent_for a)) → length (request_for r.0) ≤ 4194304 → IsAnswered limit x
+    answered_by : (x : Answered) → IsReplied limit x → (r : (a : Address) × IsWebAddress a × (x.sent ≡ sent_for a)) → length (request_for r.0) ≤ HEAD_LIMIT → IsAnswered limit x
     answered_by x h r short = record {
       sent = subst IsSent (sym r.2) (sends r.1.0 r.0 r.1.1 short);
       not_head = ap (λ (s : Sent). asks_head s.request) r.2;
@@ -84,7 +85,7 @@ module _ (plain : AddressesArePlain) (reads : AnswersAreRead) (shorts : HeadsAre
         let request : x.sent.bytes ≡ request_for h.address = ap (λ (s : Sent). s.bytes) h.sent in
         let bytes : (x.sent.bytes ++ bytes_of (sent_of all)) ++ tail ≡ request_for h.address ++ (bytes_of (sent_of all) ++ tail) =
         append_assoc x.sent.bytes (bytes_of (sent_of all)) tail ∙ ap (λ (t : List ℕ). t ++ (bytes_of (sent_of all) ++ tail)) request in
-        elim (cases_lt 4194304 (length (request_for h.address))) [
+        elim (cases_lt HEAD_LIMIT (length (request_for h.address))) [
           | inl long ↦ absurd (
               let c = cut limit server before (bytes_of (sent_of (x ∷ all)) ++ tail) marks (received_of (x ∷ all) ++ came) statuses are marked same in
               long_none h.address (bytes_of (sent_of all) ++ tail) c.later x.received (received_of all ++ came) x.body (length x.received) h.keeps false h.is_address long h.whole
@@ -112,9 +113,9 @@ module _ (plain : AddressesArePlain) (reads : AnswersAreRead) (shorts : HeadsAre
     -- and so is the next one
     pub next_short : (before : List Answered) (address : Address) (received rest body : List ℕ) (n : ℕ) (keeps at_end : Bool) → IsWebAddress address → AllByRecursion (IsAnswered limit) before
         → IsMarkedBy server (bytes_of (sent_of before) ++ request_for address) marks → response_by server (bytes_of (sent_of before) ++ request_for address) marks ≡ received_of before ++ (received ++ rest)
-        → reply_of received at_end limit ≡ Whole body n keeps → length (request_for address) ≤ 4194304
+        → reply_of received at_end limit ≡ Whole body n keeps → length (request_for address) ≤ HEAD_LIMIT
     next_short before address received rest body n keeps at_end is are marked same whole =
-        elim (cases_lt 4194304 (length (request_for address))) [
+        elim (cases_lt HEAD_LIMIT (length (request_for address))) [
           | inr short ↦ short
           | inl long ↦ absurd (
               let c = cut limit server before (request_for address) marks (received ++ rest) statuses are marked same in
@@ -126,7 +127,7 @@ module _ (plain : AddressesArePlain) (reads : AnswersAreRead) (shorts : HeadsAre
     all_sent (x ∷ all) are = (are.0.sent, all_sent all are.1)
 
     -- and where the next one is not, what comes is its refusal
-    pub next_refused : ResponseIsCut → (before : List Answered) (address : Address) (came : List ℕ) → IsWebAddress address → 4194304 < length (request_for address) → AllByRecursion (IsAnswered limit) before
+    pub next_refused : ResponseIsCut → (before : List Answered) (address : Address) (came : List ℕ) → IsWebAddress address → HEAD_LIMIT < length (request_for address) → AllByRecursion (IsAnswered limit) before
         → IsMarkedBy server (bytes_of (sent_of before) ++ request_for address) marks → response_by server (bytes_of (sent_of before) ++ request_for address) marks ≡ received_of before ++ came
         → came ≡ answer_text too_long false true
     next_refused responses before address came is long are marked same =

@@ -58,7 +58,8 @@ use Rattle.pool_laws.proofs.KeptBySteps.{IsKept, IsKeptWhileOn, running_goes, by
 use Rattle.pool_laws.proofs.Running.{answers_are_kept, given_up_owned}
 use Rattle.pool_laws.proofs.Settled.{SameWhole, shut_whole}
 use Rattle.pool_laws.proofs.Staying.{whole_then, woken_whole}
-use Rattle.pool_laws.proofs.Answers.{EndsAreTrue, cut_short, owed_on}
+use Rattle.pool_laws.specs.Ends.{EndsAreTrue}
+use Rattle.pool_laws.proofs.Answers.{cut_short, owed_on}
 
 -- ---- no link is open but those that are held
 

@@ -8,6 +8,7 @@ use Rattle.tpf_base.specs.Causes.{Rose, RoseBy}
 use Rattle.tpf_base.specs.HttpReply as reply
 use Rattle.tpf_base.specs.HttpReply.{reply_of}
 use Rattle.tpf_base.specs.Links.{Nature, WireState, OpensGiven, told_by, is_short, some_left}
+use Rattle.tpf_base.specs.declared.wire.TheConstants.{MOST_IDLE}
 use Rattle.tpf_base.specs.declared.fault.Fault.TheVariants as wires
 use Rattle.http_wire.specs.declared.message.Reply.{Reply}
 use Rattle.rdf_terms.specs.declared.term.Triple.{Triple}
@@ -47,7 +48,8 @@ use Rattle.pool_laws.proofs.Running.{answers_are_kept}
 use Rattle.pool_laws.proofs.Faults.{flight_faults, once_more, rose_later, same_fault, shut_faults}
 use Rattle.pool_laws.proofs.Fresh.{polled_given}
 use Rattle.pool_laws.proofs.Causes.{over_on, shut_idle}
-use Rattle.pool_laws.proofs.Answers.{EndsAreTrue, cut_short, owed_on}
+use Rattle.pool_laws.specs.Ends.{EndsAreTrue}
+use Rattle.pool_laws.proofs.Answers.{cut_short, owed_on}
 use Rattle.pool_laws.proofs.Staying.{Stays, starts_stay, polls_stay, round_stays, gathers_stay, waits_stay, gives_up_stays}
 
 -- ---- counts
@@ -453,7 +455,7 @@ module _ (allows : List ℕ → ℕ → List ℕ → List ℕ → Type 0) (limit
     after_as : (result other : Result Stepped PoolFault) (q : Pooled) (b : WireState) → result ≡ other → After other q b → After result q b
     after_as result other q b e h = subst (λ (x : Result Stepped PoolFault). After x q b) (sym e) h
 
-    waits_rise : (result : Result Stepped PoolFault) (p q : Pooled) (a b : WireState) → SuitsWire p a → Rising p a → AreShort (held_on q) b → b.idle < 1000 → WaitsTo result p q a b → After result q b
+    waits_rise : (result : Result Stepped PoolFault) (p q : Pooled) (a b : WireState) → SuitsWire p a → Rising p a → AreShort (held_on q) b → b.idle < MOST_IDLE → WaitsTo result p q a b → After result q b
     waits_rise result p q a b s h short few (Passes ready e w i f) = after_as result (Ok Waited) q b e (kept_rises (Ok Waited) p q a b h short f (waits_stay (Ok ready) p a b s w) w.only.later tt)
     waits_rise result p q a b s h short few (Stalls ready mid w i u) = absurd (omega (arith, i, few, shut_idle u.f.exchange.link mid b u.shuts))
     waits_rise result p q a b s h short few (Misses mid w u) =
@@ -464,7 +466,7 @@ module _ (allows : List ℕ → ℕ → List ℕ → List ℕ → Type 0) (limit
 
     -- ---- a step
 
-    in_wait : (result : Result Stepped PoolFault) (p q : Pooled) (a b : WireState) → OpensGiven a → SuitsWire p a → Rising p a → AreShort (held_on q) b → b.idle < 1000 → EndsInWait result p q a b → After result q b
+    in_wait : (result : Result Stepped PoolFault) (p q : Pooled) (a b : WireState) → OpensGiven a → SuitsWire p a → Rising p a → AreShort (held_on q) b → b.idle < MOST_IDLE → EndsInWait result p q a b → After result q b
     in_wait result p q a b g s h short few e =
         let r : Pooled = e.line in
         let suits = suits_lined p e.line a e.lines s in
@@ -492,7 +494,7 @@ module _ (allows : List ℕ → ℕ → List ℕ → List ℕ → Type 0) (limit
           fault = last_ends fault e.mid q e.between b f.given f.suits mid short e.last;
         }
 
-    breaks_rise : (fault : PoolFault) (p q : Pooled) (a b : WireState) → OpensGiven a → SuitsWire p a → Rising p a → AreShort (held_on q) b → b.idle < 1000 → EndsInFault fault p q a b → After (Err fault) q b
+    breaks_rise : (fault : PoolFault) (p q : Pooled) (a b : WireState) → OpensGiven a → SuitsWire p a → Rising p a → AreShort (held_on q) b → b.idle < MOST_IDLE → EndsInFault fault p q a b → After (Err fault) q b
     breaks_rise fault p q a b g s h short few (AtOnce e f i) = record {
       rises = rises_as before asked b.faults p q f (subst (λ (x : WireState). Rises before asked x.faults p) (sym i) (h.rises (short_as p q a f (subst (λ (x : WireState). AreShort (held_on q) x) i short))));
       fault = other_ends fault faults.OutOfMemory b e tt;
@@ -500,7 +502,7 @@ module _ (allows : List ℕ → ℕ → List ℕ → List ℕ → Type 0) (limit
     breaks_rise fault p q a b g s h short few (InRun e) = in_run fault p q a b g s h short e
     breaks_rise fault p q a b g s h short few (InWait e) = in_wait (Err fault) p q a b g s h short few e
 
-    step_after : (result : Result Stepped PoolFault) (p q : Pooled) (a b : WireState) → OpensGiven a → SuitsWire p a → Rising p a → AreShort (held_on q) b → b.idle < 1000 → StepsTo result p q a b → After result q b
+    step_after : (result : Result Stepped PoolFault) (p q : Pooled) (a b : WireState) → OpensGiven a → SuitsWire p a → Rising p a → AreShort (held_on q) b → b.idle < MOST_IDLE → StepsTo result p q a b → After result q b
     step_after (Ok Idle) p q a b g s h short few t =
         record { rises = rises_as before asked b.faults p q t.1 (subst (λ (x : WireState). Rises before asked x.faults p) (sym t.2) (h.rises (short_as p q a t.1 (subst (λ (x : WireState). AreShort (held_on q) x) t.2 short)))); fault = tt }
     step_after (Ok (Came ticket address answer)) p q a b g s h short few t = in_came ticket address answer p q a b g s h short t

@@ -2,6 +2,7 @@
 use Rattle.std.proofs.Common.{append-nil, ◌≡◌, ◌≢◌, ℕ, ◌+◌, ◌<◌, ◌≤◌, Bool, true, false, List, [], ◌∷◌, ◌++◌, length, refl, sym, ap, ◌∙◌, arith, length-append, inl, inr, Option, Some}
 use Rattle.std.specs.Prelude.{◌⊎◌, ◌^◌}
 use Rattle.std.proofs.lemmas.Bool.{cases_lt, lt-ltb}
+use Rattle.tpf_base.specs.declared.limits.TheConstants.{HEADS_LIMIT}
 use Rattle.tpf_base.specs.Links.{some_left}
 use Rattle.tpf_base.specs.Decimals.{decimal_text, digits_up_to}
 use Rattle.tpf_base.specs.HttpReply.{Reading, More, Whole, Bad, ReplyFault, TooLong, BadStatus, reply_of, reading_from}
@@ -30,18 +31,18 @@ text_is answer closes = refl
 module _ (limit : ℕ) (received body : List ℕ) (n : ℕ) (keeps at_end : Bool) (whole : reply_of received at_end limit ≡ Whole body n keeps) where
   -- ---- a refusal is none
 
-  refused_case : (answer : Answer) (closes : Bool) (rest : List ℕ) → AnswerIsRead limit answer closes → answer.status ≢ 200 → length (head_text answer.status answer.media_type (length answer.body) closes) ≤ 65536
+  refused_case : (answer : Answer) (closes : Bool) (rest : List ℕ) → AnswerIsRead limit answer closes → answer.status ≢ 200 → length (head_text answer.status answer.media_type (length answer.body) closes) ≤ HEADS_LIMIT
       → IsWithinHead (head_text answer.status answer.media_type (length answer.body) closes) received ⊎ IsPast (head_text answer.status answer.media_type (length answer.body) closes) answer.body received rest → ⊥
   refused_case answer closes rest read other short (inl w) =
       let count : length (head_text answer.status answer.media_type (length answer.body) closes) ≡ length received + length w.rest = ap (λ (t : List ℕ). length t) w.is ∙ length-append received w.rest in
       more_whole _ body n keeps (read.begun received w.rest at_end w.is w.some (below _ (length received) (length w.rest) count w.some short)) whole
     where
-      below : (l r s : ℕ) → l ≡ r + s → 0 < s → l ≤ 65536 → r < 65536
+      below : (l r s : ℕ) → l ≡ r + s → 0 < s → l ≤ HEADS_LIMIT → r < HEADS_LIMIT
       below l r s is some few = omega arith
   refused_case answer closes rest read other short (inr p) =
       bad_whole _ (BadStatus answer.status) body n keeps (ap (λ (t : List ℕ). reply_of t at_end limit) p.front_is ∙ read.other other p.part at_end) whole
 
-  pub no_refusal : (answer : Answer) (closes : Bool) (rest : List ℕ) → AnswerIsRead limit answer closes → answer.status ≢ 200 → length (head_text answer.status answer.media_type (length answer.body) closes) ≤ 65536
+  pub no_refusal : (answer : Answer) (closes : Bool) (rest : List ℕ) → AnswerIsRead limit answer closes → answer.status ≢ 200 → length (head_text answer.status answer.media_type (length answer.body) closes) ≤ HEADS_LIMIT
       → answer_text answer false closes ≡ received ++ rest → ⊥
   no_refusal answer closes rest read other short is =
       refused_case answer closes rest read other short (front_cases (head_text answer.status answer.media_type (length answer.body) closes) answer.body received rest (sym (text_is answer closes) ∙ is))
@@ -87,8 +88,8 @@ module _ (limit : ℕ) (received body : List ℕ) (n : ℕ) (keeps at_end : Bool
 
   -- the head of another status is short: a long one is refused for its length
   short_case : LongHeadsAreRefused → (answer : Answer) (closes : Bool) → IsStatus answer.status → AnswerIsRead limit answer closes → answer.status ≢ 200
-      → (65536 < length (head_text answer.status answer.media_type (length answer.body) closes)) ⊎ (length (head_text answer.status answer.media_type (length answer.body) closes) ≤ 65536)
-      → length (head_text answer.status answer.media_type (length answer.body) closes) ≤ 65536
+      → (HEADS_LIMIT < length (head_text answer.status answer.media_type (length answer.body) closes)) ⊎ (length (head_text answer.status answer.media_type (length answer.body) closes) ≤ HEADS_LIMIT)
+      → length (head_text answer.status answer.media_type (length answer.body) closes) ≤ HEADS_LIMIT
   short_case refused answer closes is read other (inr few) = few
   short_case refused answer closes is read other (inl many) =
       absurd (other_fault _ answer.status (refused limit answer.status answer.media_type (length answer.body) closes is many [] false) (read.other other [] false))
@@ -97,7 +98,7 @@ module _ (limit : ℕ) (received body : List ℕ) (n : ℕ) (keeps at_end : Bool
       → (answer.status ≡ 200) ⊎ (answer.status ≡ 200 → ⊥) → answer.status ≡ 200
   status_is refused answer rest is read same (inl ok) = ok
   status_is refused answer rest is read same (inr other) =
-      absurd (no_refusal answer false rest read other (short_case refused answer false is read other (cases_lt 65536 (length (head_text answer.status answer.media_type (length answer.body) false)))) same)
+      absurd (no_refusal answer false rest read other (short_case refused answer false is read other (cases_lt HEADS_LIMIT (length (head_text answer.status answer.media_type (length answer.body) false)))) same)
 
 -- ---- a whole answer
 
@@ -158,10 +159,10 @@ long_body : length too_long.body < 10 ^ 2
 unfolding phrase decimal_text digits_up_to
 long_body = omega arith
 
-long_short : HeadsAreShort → length (head_text too_long.status too_long.media_type (length too_long.body) true) ≤ 65536
+long_short : HeadsAreShort → length (head_text too_long.status too_long.media_type (length too_long.body) true) ≤ HEADS_LIMIT
 long_short short = few _ (short 431 PlainText (length too_long.body) 2 true (inr (inr (inr (inr (inl refl))))) (omega arith) long_body)
   where
-    few : (l : ℕ) → l ≤ 200 + 2 → l ≤ 65536
+    few : (l : ℕ) → l ≤ 200 + 2 → l ≤ HEADS_LIMIT
     few l h = omega arith
 
 pub no_too_long : AnswersAreRead → HeadsAreShort → (limit : ℕ) (received rest body : List ℕ) (n : ℕ) (keeps at_end : Bool) → reply_of received at_end limit ≡ Whole body n keeps

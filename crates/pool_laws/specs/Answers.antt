@@ -2,7 +2,7 @@
 use Rattle.std.specs.Prelude.{ℕ, ◌≡◌, ◌≢◌, ◌<◌, ◌≤◌, ◌^◌, ◌++◌, Bool, true, false, List, length, Ok, Err}
 use Rattle.std.specs.List.{AllByRecursion}
 use Rattle.tpf_base.specs.Causes.{Rose}
-use Rattle.tpf_base.specs.HttpHeads.{head_limit}
+use Rattle.tpf_base.specs.declared.limits.TheConstants.{HEAD_LIMIT}
 use Rattle.http_wire.specs.declared.message.ReplyFault.{ReplyFault}
 use Rattle.http_wire.specs.declared.message.ReplyFault.TheVariants.{TooLong, Status}
 use Rattle.pool_laws.specs.Honest.{IsAnsweredByAll}
@@ -101,11 +101,11 @@ pub record IsRefusedOver (history : List (List Triple)) (config : Config) (serve
 pub record IsTooLong (allows : List ℕ → ℕ → List ℕ → List ℕ → Type 0) (fault : ReplyFault) (received : List ℕ) (old new : Pooled) (before after : WireState) : Type 0 where
   pub refused : IsRefused fault received old new before after
   pub too_long : (history : List (List Triple)) (config : Config) → IsHonestAt allows refused.loses.ask.address.host refused.loses.ask.address.port (answering history config)
-      → length (request_for refused.loses.ask.address) ≤ head_limit → IsAnsweredByAll history config refused.loses.ask.address → fault ≡ TooLong
+      → length (request_for refused.loses.ask.address) ≤ HEAD_LIMIT → IsAnsweredByAll history config refused.loses.ask.address → fault ≡ TooLong
   pub long : (history : List (List Triple)) (config : Config) → IsHonestAt allows refused.loses.ask.address.host refused.loses.ask.address.port (answering history config)
-      → length (request_for refused.loses.ask.address) ≤ head_limit → IsAnsweredByAll history config refused.loses.ask.address → HasLongBody history config old.limit refused.loses.ask.address received
+      → length (request_for refused.loses.ask.address) ≤ HEAD_LIMIT → IsAnsweredByAll history config refused.loses.ask.address → HasLongBody history config old.limit refused.loses.ask.address received
   pub over : (history : List (List Triple)) (config : Config) (served : ℕ → Bool) → IsHonestOver allows refused.loses.ask.address.host refused.loses.ask.address.port history config served
-      → length (request_for refused.loses.ask.address) ≤ head_limit → IsRefusedOver history config served old.limit fault refused.loses.ask.address received
+      → length (request_for refused.loses.ask.address) ≤ HEAD_LIMIT → IsRefusedOver history config served old.limit fault refused.loses.ask.address received
 
 abbrev pub RefusalsAreTooLong : (List ℕ → ℕ → List ℕ → List ℕ → Type 0) → WireState → Type 0
 RefusalsAreTooLong allows after =

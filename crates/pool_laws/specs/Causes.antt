@@ -7,6 +7,7 @@ use Rattle.tpf_base.specs.Causes.{Rose}
 use Rattle.tpf_base.specs.HttpReply as reply
 use Rattle.tpf_base.specs.HttpReply.{reply_of}
 use Rattle.tpf_base.specs.Links.{WireState, OpensGiven, told_by, is_short}
+use Rattle.tpf_base.specs.declared.wire.TheConstants.{MOST_IDLE}
 use Rattle.http_wire.specs.Replies.{shown_fault}
 use Rattle.http_wire.specs.declared.message.Reply.{Reply}
 use Rattle.http_wire.specs.declared.message.ReplyFault.{ReplyFault}
@@ -79,10 +80,10 @@ pub record IsCut (received : List ℕ) (old new : Pooled) (before after : WireSt
   pub short : is_short (after.links loses.on.k) ≡ true → Rose before.faults after.faults
   pub more : reply_of received true old.limit ≡ reply.More
 
--- Each fault: the wire's faults rose; 1000 waits followed one another; an ask waits, a place is free, and as many exchanges were started as the budget allows; a reply is refused; a link was cut. Want of memory needs no cause.
+-- Each fault: the wire's faults rose; MOST_IDLE waits followed one another; an ask waits, a place is free, and as many exchanges were started as the budget allows; a reply is refused; a link was cut. Want of memory needs no cause.
 abbrev pub IsCauseOf : PoolFault → Pooled → Pooled → WireState → WireState → Type 0
 IsCauseOf faults.Exchange old new before after = Rose before.faults after.faults
-IsCauseOf faults.Stalled old new before after = 1000 ≤ after.idle
+IsCauseOf faults.Stalled old new before after = MOST_IDLE ≤ after.idle
 IsCauseOf faults.Budget old new before after = IsOverBudget new
 IsCauseOf (faults.Reply fault received) old new before after = IsRefused fault received old new before after
 IsCauseOf (faults.Cut received) old new before after = IsCut received old new before after

@@ -4,6 +4,7 @@ use Rattle.std.specs.List.{AllByRecursion}
 use Rattle.tpf_base.specs.Addresses.{Address}
 use Rattle.tpf_base.specs.Causes.{RoseBy}
 use Rattle.tpf_base.specs.Links.{Link, WireState, OpensGiven}
+use Rattle.tpf_base.specs.declared.wire.TheConstants.{MOST_IDLE}
 use Rattle.request_pool.specs.declared.fault.PoolFault.{PoolFault}
 use Rattle.request_pool.specs.declared.fault.PoolFault.TheVariants as faults
 use Rattle.request_pool.specs.declared.fault.Stepped.{Stepped}
@@ -76,8 +77,8 @@ PutsFail =
 abbrev pub FaultsFail : Type 0
 FaultsFail = (since : WireState) (pool : Pooled) (wire : WireState) → FailuresEnd since (record pool { fault = None }) wire → FailuresEnd since pool wire
 
--- each step, whatever it answers, after which fewer than 1000 waits have followed one another
+-- each step, whatever it answers, after which fewer than MOST_IDLE waits have followed one another
 abbrev pub StepsFail : Type 0
 StepsFail =
     (since : WireState) (result : Result Stepped PoolFault) (old new : Pooled) (wire wire' : WireState)
-    → OpensGiven wire → SuitsWire old wire → wire'.idle < 1000 → FailuresEnd since old wire → StepsTo result old new wire wire' → StepFails result since old new wire'
+    → OpensGiven wire → SuitsWire old wire → wire'.idle < MOST_IDLE → FailuresEnd since old wire → StepsTo result old new wire wire' → StepFails result since old new wire'

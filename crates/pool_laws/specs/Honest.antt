@@ -3,7 +3,7 @@ use Rattle.std.specs.Prelude.{ℕ, ◌≡◌, ◌≤◌, ◌<◌, ◌^◌, List,
 use Rattle.std.specs.List.{AllByRecursion}
 use Rattle.rdf_terms.specs.declared.term.Triple.{Triple}
 use Rattle.tpf_base.specs.Addresses.{Address, IsAddress}
-use Rattle.tpf_base.specs.HttpHeads.{head_limit}
+use Rattle.tpf_base.specs.declared.limits.TheConstants.{HEAD_LIMIT}
 use Rattle.tpf_base.specs.Links.{All, Link, WireState, IsToldBy, ReceivesOwed}
 use Rattle.http_wire.specs.declared.message.ReplyFault.{ReplyFault}
 use Rattle.http_wire.specs.declared.message.ReplyFault.TheVariants as faults
@@ -39,5 +39,5 @@ RefusedAsTooLongAlone =
     (refused : Refuses old new wire wire' fault received)
     → IsToldBy All (wire'.links refused.ends.k) → ReceivesOwed (wire'.links refused.ends.k) → OwesResponse history config (wire'.links refused.ends.k)
     → Stands (bytes_of (sent_of before)) (received_of before) old wire → AllByRecursion (IsAnswered limit) before
-    → IsAddress text new.address → length (request_for new.address) ≤ head_limit → new.limit < 2 ^ 64 → IsAnsweredByAll history config new.address
+    → IsAddress text new.address → length (request_for new.address) ≤ HEAD_LIMIT → new.limit < 2 ^ 64 → IsAnsweredByAll history config new.address
     → (fault ≡ faults.TooLong) × IsPastLimit history config new.limit new.address

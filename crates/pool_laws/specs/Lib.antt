@@ -1,5 +1,6 @@
 pub mod Honest
 pub mod Following
+pub mod Ends
 pub mod Answers
 pub mod Owning
 pub mod Hosts

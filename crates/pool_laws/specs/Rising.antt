@@ -5,6 +5,7 @@ use Rattle.rdf_terms.specs.declared.term.Triple.{Triple}
 use Rattle.tpf_base.specs.Addresses.{Address}
 use Rattle.tpf_base.specs.Causes.{RoseBy}
 use Rattle.tpf_base.specs.Links.{WireState, OpensGiven}
+use Rattle.tpf_base.specs.declared.wire.TheConstants.{MOST_IDLE}
 use Rattle.template_fill.specs.Metadata.{Config}
 use Rattle.template_fill.specs.Responses.{answering, IsHonestAt}
 use Rattle.request_pool.specs.declared.fault.PoolFault.{PoolFault}
@@ -65,11 +66,11 @@ PutsRose =
 abbrev pub FaultsRose : Type 0
 FaultsRose = (before asked : ℕ) (pool : Pooled) (wire : WireState) → FailuresRose before asked (record pool { fault = None }) wire → FailuresRose before asked pool wire
 
--- Each step, whatever it answers, where every ask that is held is served, each by a server of its own, and after which fewer than 1000 waits have followed one another.
+-- Each step, whatever it answers, where every ask that is held is served, each by a server of its own, and after which fewer than MOST_IDLE waits have followed one another.
 abbrev pub StepsRoseBySome : (List ℕ → ℕ → List ℕ → List ℕ → Type 0) → WireState → Type 0
 StepsRoseBySome allows after =
     (before asked : ℕ) (result : Result Stepped PoolFault) (old new : Pooled) (wire : WireState)
-    → OpensGiven wire → SuitsWire old wire → AnswersSoFar old wire → old.limit < 2 ^ 64 → TellsAll allows after → after.idle < 1000
+    → OpensGiven wire → SuitsWire old wire → AnswersSoFar old wire → old.limit < 2 ^ 64 → TellsAll allows after → after.idle < MOST_IDLE
     → AllByRecursion (λ ask. IsServedBySome allows ask.address) (held old)
     → FailuresRose before asked old wire → StepsTo result old new wire after → StepRose result before asked old new after
 
@@ -77,6 +78,6 @@ StepsRoseBySome allows after =
 abbrev pub StepsRose : (List ℕ → ℕ → List ℕ → List ℕ → Type 0) → WireState → Type 0
 StepsRose allows after =
     (history : List (List Triple)) (config : Config) (before asked : ℕ) (result : Result Stepped PoolFault) (old new : Pooled) (wire : WireState)
-    → OpensGiven wire → SuitsWire old wire → AnswersSoFar old wire → old.limit < 2 ^ 64 → TellsAll allows after → after.idle < 1000
+    → OpensGiven wire → SuitsWire old wire → AnswersSoFar old wire → old.limit < 2 ^ 64 → TellsAll allows after → after.idle < MOST_IDLE
     → AllByRecursion (λ ask. IsServed allows history config ask.address) (held old)
     → FailuresRose before asked old wire → StepsTo result old new wire after → StepRose result before asked old new after

@@ -1,14 +1,15 @@
 //! What the steps of a pool come to, over any wire and over one whose other ends answer as a server does (an honest one).
 //!
-//! A law is called where its statement is wanted, and does nothing when it runs. These three are what every wire keeps to:
+//! A law is called where its statement is wanted, and does nothing when it runs. These are among those on which what is
+//! said of the links and requests of a query rests:
 //!
 //! ```rust
-//! pub(crate) fn is_lawful<W: Wire>(wire: &W)
-//!     ensures { IsLawful (W.allows wire.now) (W.state wire.now) }
+//! pub fn traffic_rests_on_laws<W: Dial>(wire: &W)
+//!     ensures { TrafficLaws }
 //! {
-//!     a_reply_is_an_answer(wire);
+//!     links_are_for_asks();
+//!     requests_are_counted();
 //!     failures_are_rises(wire);
-//!     steps_provoke_nothing(wire);
 //! }
 //! ```
 #![tactic(auto)]
@@ -16,6 +17,7 @@
 ghost use Rattle.std.specs.Prelude.{◌≡◌};
 ghost use Rattle.tpf_base.specs.Links.{All};
 ghost use Rattle.pool_laws.specs.Answers.{CutsAreFaults, RefusalsAreTooLong, RepliesAreAnswers, TellsAll};
+ghost use Rattle.pool_laws.specs.Ends.{EndsAreTrue};
 ghost use Rattle.pool_laws.specs.Honest.{RefusedAsTooLongAlone};
 ghost use Rattle.pool_laws.specs.Owning.{ClosingCloses, EmptyPoolsOwn, FaultsOwn, PutsOwn, StepsOwn};
 ghost use Rattle.pool_laws.specs.Hosts.{ClosingAtHosts, EmptyPoolsOwnAtHosts, FaultsOwnAtHosts, PutsOwnAtHosts, StepsDialHeld, StepsOwnAtHosts};
@@ -32,6 +34,17 @@ ghost use Rattle.pool_laws.specs.Following.{ClosedPoolsFollow, EmptyPoolsFollow,
 use http_ends::{a_reading_stays, a_response_is_cut, an_answer_is_read, requests_are_cut};
 use template_fill::authorities_are_hosts_and_ports;
 use tpf_base::Wire;
+
+/// What the two ends of HTTP send and read, on which what is said of other ends that answer as a server
+/// does rests.
+fn ends_are_true()
+    ensures { EndsAreTrue }
+{
+    requests_are_cut();
+    an_answer_is_read();
+    a_reading_stays();
+    a_response_is_cut();
+}
 
 /// On each link that a pool holds, whole requests for addresses stand, each with one whole reply,
 /// before what an exchange moves there itself. So it is of a new pool, and so it stays with each
@@ -64,10 +77,7 @@ pub fn a_reply_is_an_answer<W: Wire>(wire: &W)
     ensures cut { CutsAreFaults (W.allows wire.now) (W.state wire.now) }
     ensures tells { (W.state wire.now).nature.tells ≡ All → TellsAll (W.allows wire.now) (W.state wire.now) }
 {
-    requests_are_cut();
-    an_answer_is_read();
-    a_reading_stays();
-    a_response_is_cut();
+    ends_are_true();
     authorities_are_hosts_and_ports();
 }
 
@@ -113,8 +123,8 @@ pub fn exchanges_are_counted()
 
 /// A reply that comes was read, whole, on a link on which the whole request for its ticket's address
 /// was sent (`reply`). Each fault with which a step ends has a cause (`fault`): a rise of the wire's
-/// faults; 1000 waits with nothing moved; the budget; or what was received in reply to a request, as
-/// it is kept, which is refused or was cut.
+/// faults; `MOST_IDLE` (1000) waits with nothing moved; the budget; or what was received in reply to a
+/// request, as it is kept, which is refused or was cut.
 pub fn a_step_has_a_cause()
     ensures reply { RepliesAreRead }
     ensures fault { FaultsHaveCauses }
@@ -123,10 +133,10 @@ pub fn a_step_has_a_cause()
 }
 
 /// Over other ends that answer as a server does, each failure of an ask is a rise of the wire's
-/// faults, where never 1000 waits follow one another (`step`). So, since the pool was empty, no more
-/// exchanges are started than asks were put and faults rose; and a step after which the wire is this
-/// one ends with `Exchange` or `Cut` only where the faults rose at least once more than an ask may be
-/// tried again, and never with `Stalled`. It is so too where each ask has a server of its own
+/// faults, where never `MOST_IDLE` (1000) waits follow one another (`step`). So, since the pool was
+/// empty, no more exchanges are started than asks were put and faults rose; and a step after which the
+/// wire is this one ends with `Exchange` or `Cut` only where the faults rose at least once more than an
+/// ask may be tried again, and never with `Stalled`. It is so too where each ask has a server of its own
 /// (`step_by_some`).
 pub fn failures_are_rises<W: Wire>(wire: &W)
     ensures empty { EmptyPoolsRose }
@@ -135,10 +145,7 @@ pub fn failures_are_rises<W: Wire>(wire: &W)
     ensures step { StepsRose (W.allows wire.now) (W.state wire.now) }
     ensures step_by_some { StepsRoseBySome (W.allows wire.now) (W.state wire.now) }
 {
-    requests_are_cut();
-    an_answer_is_read();
-    a_reading_stays();
-    a_response_is_cut();
+    ends_are_true();
     authorities_are_hosts_and_ports();
 }
 
@@ -186,9 +193,9 @@ pub fn asks_are_answered()
 {}
 
 /// Whatever the other ends answer, each failure of an ask is a rise of the wire's faults or the end of
-/// a link that was given since the pool was empty, where never 1000 waits follow one another (`step`).
-/// So a step ends with `Exchange` or `Cut` only where the faults rose and links ended, together, at
-/// least once more than an ask may be tried again, and never with `Stalled`.
+/// a link that was given since the pool was empty, where never `MOST_IDLE` (1000) waits follow one
+/// another (`step`). So a step ends with `Exchange` or `Cut` only where the faults rose and links ended,
+/// together, at least once more than an ask may be tried again, and never with `Stalled`.
 pub fn failures_are_ends()
     ensures empty { EmptyPoolsFail }
     ensures put { PutsFail }
@@ -220,10 +227,7 @@ pub fn steps_provoke_nothing<W: Wire>(wire: &W)
     ensures hang { NoneHang (W.allows wire.now) (W.state wire.now) }
     ensures hang_by_some { NoneHangBySome (W.allows wire.now) (W.state wire.now) }
 {
-    requests_are_cut();
-    an_answer_is_read();
-    a_reading_stays();
-    a_response_is_cut();
+    ends_are_true();
     authorities_are_hosts_and_ports();
 }
 

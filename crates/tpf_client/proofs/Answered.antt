@@ -4,7 +4,8 @@ use Rattle.tpf_base.specs.Links.{WireState}
 use Rattle.pool_laws.specs.Answers.{RepliesAreAnswers, RefusalsAreTooLong}
 use Rattle.pool_laws.specs.Rising.{StepsRoseBySome}
 use Rattle.pool_laws.specs.Provoking.{NoneHangBySome}
-use Rattle.pool_laws.proofs.Answers.{EndsAreTrue, replies_are_answers, refusals_are_too_long}
+use Rattle.pool_laws.specs.Ends.{EndsAreTrue}
+use Rattle.pool_laws.proofs.Answers.{replies_are_answers, refusals_are_too_long}
 use Rattle.pool_laws.proofs.Rising.{steps_rose_by_some}
 use Rattle.pool_laws.proofs.Provoking.{none_hang_by_some}
 use Rattle.tpf_client.specs.Honest.{Laws}
