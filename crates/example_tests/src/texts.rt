@@ -1,7 +1,7 @@
 // `text_base`, `rdf_terms`, `nquads_text` and `quad_feed`.
 use nquads_text::{read_all, write_quad};
 use quad_feed::QuadFeed;
-use rdf_terms::{Quad, Term, TermFault};
+use rdf_terms::{LONGEST_TERM, Quad, Term, TermFault};
 use std::alloc::Global;
 use std::process::Abort;
 use std::test::Fail;
@@ -11,7 +11,7 @@ const INTEGER: &str = "http://www.w3.org/2001/XMLSchema#integer";
 
 const STRING: &str = "http://www.w3.org/2001/XMLSchema#string";
 
-const LONGEST: usize = 262144;
+const LONGEST: usize = LONGEST_TERM;
 
 fn is_no_iri<R: Abort + AllocGlobal>(rt: &R) {
     assert_eq!(rt;

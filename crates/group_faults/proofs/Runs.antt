@@ -4,11 +4,7 @@ use Rattle.std.specs.Prelude.{IfSome, IfNone}
 use Rattle.std.proofs.lemmas.List.{drop_more, drop_all}
 use Rattle.std.proofs.lemmas.List.Edits.{between_more}
 use Rattle.query_words.specs.declared.word.Word.{Word}
-use Rattle.pattern_parser.specs.declared.limit.PatternCount.{PatternCount}
-use Rattle.pattern_parser.specs.declared.limit.PatternCount.TheVariants.{Over, Left}
-use Rattle.pattern_parser.specs.Limits.{Counts}
-use Rattle.pattern_parser.specs.Items.{items_after, names_after}
-use Rattle.pattern_parser.specs.Triples.{Placed, triples_after}
+use Rattle.pattern_parser.specs.Items.{names_after}
 use Rattle.group_faults.specs.Signs.{sign_of, is_other, runs_after}
 use Rattle.group_faults.specs.Faults.{triples_in, place_at}
 use Rattle.group_faults.specs.Walks.{runs_from}
@@ -40,33 +36,6 @@ sign_runs ws from i w l e o =
 
 -- ---- places
 
-place_in : (ts us : List Placed) (k at : ℕ) → place_at k ts ≡ Some at → place_at k (ts ++ us) ≡ Some at
-place_in [] us k at h = absurd (none k h)
-  where
-    none : (k : ℕ) → place_at k [] ≡ Some at → ⊥
-    none zero h = cc
-    none (suc k) h = cc
-place_in (t ∷ ts) us zero at h = h
-place_in (t ∷ ts) us (suc k) at h = place_in ts us k at h
-
-place_past : (ts us : List Placed) (k n : ℕ) → length ts + n ≡ k → place_at k (ts ++ us) ≡ place_at n us
-place_past [] us k n h = let e : k ≡ n = omega (arith, h) in ap (λ (j : ℕ). place_at j us) e
-place_past (t ∷ ts) us zero n h = absurd (omega (arith, h))
-place_past (t ∷ ts) us (suc k) n h = place_past ts us k n (omega (arith, h))
-
--- where a run has one pattern too many, that is the one of all runs
-pub over_runs : (iri : List ℕ → Option (List ℕ)) (names : List (List ℕ)) (run : List Word) (runs : List (List Word)) (k at : ℕ) (r : PatternCount) → r ≡ Over at → Counts k (triples_after None None (items_after iri names 0 run)) r → place_at k (triples_in iri names (run ∷ runs)) ≡ Some at
-over_runs iri names run runs k at (Over n) e h =
-    let same : n ≡ at = cc in
-    place_in (triples_after None None (items_after iri names 0 run)) (triples_in iri (names_after names 0 run) runs) k at (h ∙ ap (λ (m : ℕ). let o : Option ℕ = Some m in o) same)
-over_runs iri names run runs k at (Left n) e h = absurd (cc)
-
-pub left_runs : (iri : List ℕ → Option (List ℕ)) (names : List (List ℕ)) (run : List Word) (runs : List (List Word)) (k n : ℕ) (r : PatternCount) → r ≡ Left n → Counts k (triples_after None None (items_after iri names 0 run)) r → place_at k (triples_in iri names (run ∷ runs)) ≡ place_at n (triples_in iri (names_after names 0 run) runs)
-left_runs iri names run runs k n (Over m) e h = absurd (cc)
-left_runs iri names run runs k n (Left m) e h =
-    let same : m ≡ n = cc in
-    place_past (triples_after None None (items_after iri names 0 run)) (triples_in iri (names_after names 0 run) runs) k n (omega (arith, h, same))
-
 -- ---- one token of the walk
 
 abbrev pub Iri : Type 0
@@ -75,10 +44,6 @@ Iri = List ℕ → Option (List ℕ)
 -- a token of a run
 pub other_taken : (ws : List Word) (from i : ℕ) (w : Word) (left : ℕ) → from ≤ i → i < length ws → w ≡ get_or ws i w → is_other (sign_of w.value) ≡ true → (iri : Iri) (names : List (List ℕ)) → (later : List (List ℕ)) × (place_at left (triples_in iri later (runs_from from (i + 1) ws)) ≡ place_at left (triples_in iri names (runs_from from i ws)))
 other_taken ws from i w left h l e o iri names = (names, ap (λ (r : List (List Word)). place_at left (triples_in iri names r)) (sym (other_runs ws from i w h l e o)))
-
--- a sign, behind a run with one pattern too many
-pub sign_over : (ws : List Word) (from i : ℕ) (w : Word) (left at : ℕ) → i < length ws → w ≡ get_or ws i w → is_other (sign_of w.value) ≡ false → ((iri : Iri) (names : List (List ℕ)) (runs : List (List Word)) → place_at left (triples_in iri names (take (i - from) (drop from ws) ∷ runs)) ≡ Some at) → (iri : Iri) (names : List (List ℕ)) → place_at left (triples_in iri names (runs_from from i ws)) ≡ Some at
-sign_over ws from i w left at l e o f iri names = ap (λ (r : List (List Word)). place_at left (triples_in iri names r)) (sign_runs ws from i w l e o) ∙ f iri names (runs_from (i + 1) (i + 1) ws)
 
 -- a sign, behind another run
 pub sign_taken : (ws : List Word) (from i : ℕ) (w : Word) (left more : ℕ) → i < length ws → w ≡ get_or ws i w → is_other (sign_of w.value) ≡ false → ((iri : Iri) (names : List (List ℕ)) (runs : List (List Word)) → place_at left (triples_in iri names (take (i - from) (drop from ws) ∷ runs)) ≡ place_at more (triples_in iri (names_after names 0 (take (i - from) (drop from ws))) runs)) → (iri : Iri) (names : List (List ℕ)) → (later : List (List ℕ)) × (place_at more (triples_in iri later (runs_from (i + 1) (i + 1) ws)) ≡ place_at left (triples_in iri names (runs_from from i ws)))

@@ -10,8 +10,8 @@ use Rattle.pattern_parser.specs.declared.fault.QueryFault.{QueryFault}
 use Rattle.pattern_parser.specs.declared.fault.QueryFault.TheVariants as queries
 use Rattle.pattern_parser.specs.declared.fault.QueryWhy.{QueryWhy}
 use Rattle.pattern_parser.specs.declared.fault.QueryWhy.TheVariants as why
-use Rattle.pattern_parser.specs.Items.{items_after, names_after}
-use Rattle.pattern_parser.specs.Triples.{Placed, triples_after}
+use Rattle.pattern_parser.specs.Items.{names_after}
+use Rattle.pattern_parser.specs.Triples.{Placed, block_triples}
 use Rattle.pattern_parser.specs.Queries.{prefixes, body, block, select_names, excess, term_fault, place_or, ReadsTokens, FaultAt}
 use Rattle.group_faults.specs.declared.fault.GroupFault.{GroupFault}
 use Rattle.group_faults.specs.declared.fault.GroupFault.TheVariants as faults
@@ -30,7 +30,7 @@ basic queries.OutOfMemory = faults.OutOfMemory
 -- the triple patterns of runs of tokens behind these names, each with the place of its object
 abbrev pub triples_in : (List ℕ → Option (List ℕ)) → List (List ℕ) → List (List Word) → List Placed
 triples_in iri names [] = []
-triples_in iri names (run ∷ runs) = triples_after None None (items_after iri names 0 run) ++ triples_in iri (names_after names 0 run) runs
+triples_in iri names (run ∷ runs) = block_triples iri names run ++ triples_in iri (names_after names 0 run) runs
 
 -- the place of the object of the pattern with this number
 abbrev pub place_at : ℕ → List Placed → Option ℕ

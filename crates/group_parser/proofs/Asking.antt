@@ -1,24 +1,20 @@
 -- What a text asks, by its tokens.
-use Rattle.std.proofs.Common.{ℕ, ◌≡◌, List, Option, Some, None, refl, sym, ap, ◌∙◌}
-use Rattle.bgp_core.specs.Queries.{QueryData}
+use Rattle.std.proofs.Common.{ℕ, ◌≡◌, List, Option, Some, sym, ap, ◌∙◌}
 use Rattle.query_grammar.specs.Groups.{IsGroupQuery, ArePlain, PlainIsQuery}
 use Rattle.query_words.specs.declared.word.Word.{Word}
 use Rattle.query_words.specs.Words.{kinds_of}
 use Rattle.pattern_parser.specs.declared.fault.QueryFault.{QueryFault}
 use Rattle.pattern_parser.specs.declared.fault.QueryFault.TheVariants as queries
 use Rattle.pattern_parser.specs.declared.fault.QueryWhy.{QueryWhy}
-use Rattle.pattern_parser.specs.Queries.{prefixes, body, query_of, later_fault}
+use Rattle.pattern_parser.specs.Queries.{later_fault}
 use Rattle.group_faults.specs.declared.fault.GroupFault.TheVariants as faults
 use Rattle.group_faults.specs.declared.fault.GroupWhy.{GroupWhy}
 use Rattle.group_faults.specs.declared.fault.GroupWhy.TheVariants.{Basic}
 use Rattle.group_faults.specs.Faults.{basic, group_fault, ReadsGroupWords}
 use Rattle.group_parser.specs.declared.reading.Asked.{Asked}
 use Rattle.group_parser.specs.declared.reading.Asked.TheVariants.{Plain, Groups}
-use Rattle.group_parser.specs.Asking.{IsAsked, IsPlainQuery, IsAskedBy}
+use Rattle.group_parser.specs.Asking.{IsAsked, IsAskedBy}
 use Rattle.group_parser.proofs.Plain.{as_basic, plain_fault, plain_words}
-
-pub plain_made : PlainIsQuery → (ws : List Word) (q : QueryData) → IsGroupQuery (kinds_of ws) → ArePlain 1 (kinds_of ws) → later_fault ws ≡ None → q ≡ query_of (prefixes ws) (body ws) → IsPlainQuery ws q
-plain_made law ws q g p f e = record { query = law.only (kinds_of ws) p g; fine = f; is = e }
 
 -- the fault of a query is one of a query with groups
 basic_bad : (f : QueryFault) (at : ℕ) (w : GroupWhy) → basic f ≡ faults.Bad at w → (v : QueryWhy) × (f ≡ queries.Bad at v) × (w ≡ Basic v)

@@ -1,13 +1,12 @@
 -- What is built of tokens without a fault is the query that they are.
-use Rattle.std.proofs.Common.{ℕ, ◌≡◌, ◌≤◌, Bool, true, false, if◌then◌else◌, List, [], Option, Some, None, refl, sym, ap, subst, ◌∙◌, take, drop, length, arith}
+use Rattle.std.proofs.Common.{ℕ, ◌≡◌, ◌≤◌, Bool, true, false, if◌then◌else◌, List, [], Option, None, sym, ap, subst, ◌∙◌, length}
 use Rattle.query_words.specs.declared.word.Word.{Word}
 use Rattle.query_words.specs.Words.{kinds_of}
 use Rattle.query_grammar.specs.Groups.{IsGroupQuery}
 use Rattle.pattern_parser.specs.Names.{variable_numbers}
 use Rattle.pattern_parser.specs.Items.{names_after}
-use Rattle.pattern_parser.specs.Prefixes.{before}
 use Rattle.pattern_parser.specs.Queries as queries
-use Rattle.pattern_parser.specs.Queries.{is_brace, has_star}
+use Rattle.pattern_parser.specs.Queries.{has_star}
 use Rattle.group_query.specs.declared.step.Step.{Step}
 use Rattle.group_query.specs.Trees.{Tree, steps_of, tree_of, IsPostfix, TreeFits, GroupData}
 use Rattle.group_query.proofs.Trees.{tree_back, is_postfix}

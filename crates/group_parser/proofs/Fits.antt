@@ -1,15 +1,14 @@
 -- The patterns of a group name names that the query has, and hold no blank node.
-use Rattle.std.proofs.Common.{ℕ, zero, suc, ◌≡◌, ◌+◌, ◌<◌, ◌≤◌, map, length, List, [], ◌∷◌, ◌++◌, Option, None, refl, sym, ap, subst, ◌∙◌, inr, arith}
+use Rattle.std.proofs.Common.{ℕ, zero, suc, ◌≡◌, ◌+◌, ◌≤◌, length, List, [], ◌∷◌, ◌++◌, Option, refl, sym, ap, subst, arith}
 use Rattle.std.specs.List.{AllByRecursion}
 use Rattle.std.proofs.lemmas.List.{append-nil}
 use Rattle.bgp_core.specs.declared.pattern.Pattern.{Pattern}
 use Rattle.bgp_core.specs.Queries.{IsPatternOf}
 use Rattle.query_words.specs.declared.word.Word.{Word}
-use Rattle.pattern_parser.specs.Items.{items_after, names_after}
-use Rattle.pattern_parser.specs.Triples.{Placed, triples_after}
+use Rattle.pattern_parser.specs.Items.{names_after}
 use Rattle.pattern_parser.proofs.Fits.{part_grows, patterns_fit, names_grow}
-use Rattle.group_query.specs.Trees.{Tree, block, empty, join, optional, union, blocks_of, TreeFits}
-use Rattle.group_parser.specs.Groups.{Element, Triples, Groups, Optional, joined, united, translated, Reading, IsBlock, AreUnions, AreElements, IsBraced, IsGroup}
+use Rattle.group_query.specs.Trees.{Tree, block, empty, optional, union, blocks_of, TreeFits}
+use Rattle.group_parser.specs.Groups.{Element, Triples, Groups, Optional, joined, united, translated, Reading, IsBlock, AreUnions, AreElements, IsGroup}
 use Rattle.group_parser.proofs.Walked.{block_is_read}
 
 abbrev pub Iri : Type 0

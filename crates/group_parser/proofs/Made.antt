@@ -5,17 +5,16 @@ use Rattle.bgp_core.specs.declared.pattern.Pattern.{Pattern}
 use Rattle.query_words.specs.declared.word.Value.{Value}
 use Rattle.query_words.specs.declared.word.Value.TheVariants as values
 use Rattle.query_words.specs.declared.word.Word.{Word}
-use Rattle.query_words.specs.Words.{kind_of, kinds_of}
+use Rattle.query_words.specs.Words.{kind_of}
 use Rattle.query_words.proofs.Values.{open_value, close_value}
 use Rattle.regular_expressions.specs.Regular.{Regular, many}
-use Rattle.regular_expressions.specs.Combinators.{◌·◌, ◌∣◌, maybe}
+use Rattle.regular_expressions.specs.Combinators.{◌·◌, maybe}
 use Rattle.query_grammar.specs.declared.kind.Kind.TheVariants as kinds
 use Rattle.query_grammar.specs.Grammar as grammar
 use Rattle.query_grammar.specs.Grammar.{a}
 use Rattle.query_grammar.specs.Groups.{part, inside, group_of}
 use Rattle.pattern_parser.specs.declared.item.Item.{Item}
-use Rattle.pattern_parser.specs.Triples.{Placed}
-use Rattle.pattern_parser.specs.Items.{items_after, names_after}
+use Rattle.pattern_parser.specs.Items.{names_after}
 use Rattle.pattern_parser.specs.Productions as productions
 use Rattle.pattern_parser.proofs.Splits.{Is, Are, flat, seq_split, none, many_split, one, marked}
 use Rattle.pattern_parser.proofs.Blocks.{It, block_read}

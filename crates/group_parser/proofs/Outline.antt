@@ -1,9 +1,9 @@
 -- The parts of words that the grammar of groups reads: the PREFIX part, the SELECT part, and the group.
-use Rattle.std.proofs.Common.{ℕ, zero, suc, ◌≡◌, List, [], ◌∷◌, ◌++◌, Option, Some, None, refl, sym, ap, subst, ◌∙◌, append_assoc}
+use Rattle.std.proofs.Common.{ℕ, zero, suc, ◌≡◌, List, [], ◌∷◌, ◌++◌, Option, refl, sym, ap, subst, ◌∙◌, append_assoc}
 use Rattle.std.proofs.lemmas.List.{append-nil}
 use Rattle.query_words.specs.declared.word.Word.{Word}
 use Rattle.query_words.specs.Words.{kind_of, kinds_of}
-use Rattle.regular_expressions.specs.Combinators.{◌·◌, ◌∣◌, maybe}
+use Rattle.regular_expressions.specs.Combinators.{◌·◌, maybe}
 use Rattle.query_grammar.specs.declared.kind.Kind.TheVariants as kinds
 use Rattle.query_grammar.specs.Grammar.{a}
 use Rattle.query_grammar.specs.Groups.{inside, group_of, head, query_of, IsGroupQuery}

@@ -1,5 +1,5 @@
 -- Queries without a group inside the group are the same for both readers, and have the same faults.
-use Rattle.std.proofs.Common.{ℕ, zero, suc, ◌≡◌, ◌⊎◌, inl, inr, ◌+◌, ◌==◌, ◌||◌, Bool, true, false, if◌then◌else◌, map, take, drop, append_assoc, List, [], ◌∷◌, ◌++◌, Option, Some, None, refl, sym, ap, subst, ◌∙◌, length, eq-eqb}
+use Rattle.std.proofs.Common.{ℕ, zero, suc, ◌≡◌, inl, inr, ◌+◌, ◌||◌, Bool, true, false, if◌then◌else◌, map, take, drop, append_assoc, List, [], ◌∷◌, ◌++◌, Option, Some, None, refl, sym, ap, subst, ◌∙◌, eq-eqb}
 use Rattle.std.proofs.lemmas.List.{append-nil}
 use Rattle.std.specs.Str.{bytes_eq, chars}
 use Rattle.bgp_core.specs.declared.pattern.Part.{Part}
@@ -10,8 +10,8 @@ use Rattle.rdf_terms.specs.declared.term.Term.{Term}
 use Rattle.query_grammar.specs.declared.kind.Kind.{Kind}
 use Rattle.query_grammar.specs.declared.kind.Kind.TheVariants as kinds
 use Rattle.query_grammar.specs.Grammar as grammar
-use Rattle.query_grammar.specs.Grammar.{code, codes, IsQuery, IsGrammarFault}
-use Rattle.query_grammar.specs.Groups.{IsGroupQuery, IsGroupFault, IsPlainKind, ArePlain, PlainIsQuery}
+use Rattle.query_grammar.specs.Grammar.{code, codes, IsQuery}
+use Rattle.query_grammar.specs.Groups.{IsPlainKind, ArePlain, PlainIsQuery}
 use Rattle.regular_expressions.specs.Combinators.{maybe}
 use Rattle.query_words.specs.declared.word.Value.{Value}
 use Rattle.query_words.specs.declared.word.Value.TheVariants as values
@@ -21,25 +21,22 @@ use Rattle.query_words.proofs.Values.{open_value, close_value}
 use Rattle.pattern_parser.specs.declared.fault.QueryWhy.{QueryWhy}
 use Rattle.pattern_parser.specs.declared.fault.QueryWhy.TheVariants as why
 use Rattle.pattern_parser.specs.declared.item.Item.{Item}
-use Rattle.pattern_parser.specs.Names.{name_text, with_name, variable_numbers}
+use Rattle.pattern_parser.specs.Names.{name_text, with_name}
 use Rattle.pattern_parser.specs.Items.{string_before, string_term, part_of, more_of, more_after, more, item_of, items_after, names_after}
-use Rattle.pattern_parser.specs.Triples.{Placed, triples_after}
+use Rattle.pattern_parser.specs.Triples.{Placed, triples_after, block_triples, block_patterns}
 use Rattle.pattern_parser.specs.Prefixes.{before}
-use Rattle.pattern_parser.specs.Queries.{is_select, is_brace, prefixes, body, block, select_part, select_names, has_star, names_of, triples_of, query_of, excess, fault_or, first_of, term_fault, later_fault, place_or, Reads, ReadsTokens, ReadsQuery, IsGrammarAt, IsLaterAt, FaultAt, IsTokenFaultAt}
+use Rattle.pattern_parser.specs.Queries.{is_select, is_brace, prefixes, body, block, select_part, select_names, names_of, triples_of, query_of, excess, fault_or, first_of, term_fault, later_fault, Reads, ReadsTokens, ReadsQuery, IsGrammarAt, IsLaterAt, FaultAt}
 use Rattle.pattern_parser.proofs.Shorts.{as_tokens}
 use Rattle.pattern_parser.proofs.Splits.{Is, none}
 use Rattle.pattern_parser.proofs.Nexts.{FirstIri, Nexts, keeps_block}
-use Rattle.pattern_parser.proofs.Outline.{Outline, outline, block_is}
-use Rattle.group_query.specs.Trees.{Tree, empty}
+use Rattle.pattern_parser.proofs.Outline.{outline, block_is}
 use Rattle.group_query.specs.Trees as trees
 use Rattle.group_faults.specs.declared.limits.TheConstants.{MOST_OPEN}
 use Rattle.group_faults.specs.declared.fault.GroupWhy.{GroupWhy}
 use Rattle.group_faults.specs.declared.fault.GroupWhy.TheVariants.{Basic, TooDeep, SharedBlank}
 use Rattle.group_faults.specs.Signs.{sign_of, is_other, runs_after, runs_of}
-use Rattle.group_faults.specs.Faults.{triples_in, depth_after, place_unless, deep_from, label_text, block_after, with_label, at_label, by_label, shared_from, fault_at, basic_or, block_fault, group_fault, ReadsGroupWords, IsGroupGrammarAt, IsLaterGroupFault, GroupFaultAt}
-use Rattle.group_faults.proofs.Texts.{token_is_fault}
-use Rattle.group_parser.specs.Groups.{Triples, IsBlock, IsGroup}
-use Rattle.group_parser.specs.Walks.{patterns_of}
+use Rattle.group_faults.specs.Faults.{triples_in, depth_after, place_unless, deep_from, label_text, block_after, with_label, at_label, by_label, shared_from, fault_at, basic_or, group_fault, ReadsGroupWords, IsGroupGrammarAt, IsLaterGroupFault, GroupFaultAt}
+use Rattle.group_parser.specs.Groups.{Triples, IsGroup}
 use Rattle.group_parser.specs.Texts.{is_distinct, has_distinct, IsGroupIn, ReadsGroups, IsPlainText, one_block, as_groups}
 use Rattle.group_parser.proofs.Walked.{AllOther, block_other, block_some, block_is_read}
 use Rattle.group_parser.proofs.Made.{block_made, skip_others}
@@ -135,9 +132,9 @@ braced_runs b k =
     ap (λ (v : Value). if is_other (sign_of v) then runs_after (k.brace ∷ []) tail else [] ∷ runs_after [] tail) k.opens ∙
     ap (λ (l : List (List Word)). [] ∷ l) (others_run [] k.inner (k.close ∷ []) (inner_other k.inner k.inner_is) ∙ ap (λ (v : Value). if is_other (sign_of v) then runs_after (k.inner ++ k.close ∷ []) [] else k.inner ∷ runs_after [] []) k.closes)
 
-braced_triples : (iri : Iri) (names : List (List ℕ)) (b : List Word) → Braces b → triples_in iri names (runs_of b) ≡ triples_after None None (items_after iri names 0 b)
+braced_triples : (iri : Iri) (names : List (List ℕ)) (b : List Word) → Braces b → triples_in iri names (runs_of b) ≡ block_triples iri names b
 braced_triples iri names b k =
-    ap (triples_in iri names) (braced_runs b k) ∙ append-nil (triples_after None None (items_after iri names 0 k.inner)) ∙ ap (triples_after None None) (sym (braced_items iri names b k))
+    ap (triples_in iri names) (braced_runs b k) ∙ append-nil (block_triples iri names k.inner) ∙ ap (triples_after None None) (sym (braced_items iri names b k))
 
 braced_deep : (b : List Word) → Braces b → deep_from 0 b ≡ None
 braced_deep b k =
@@ -204,21 +201,21 @@ plain_fault ws q =
 -- ---- the query
 
 -- the words from the brace on are the one block, or nothing
-block_group : (iri : Iri) (names : List (List ℕ)) (b : List Word) (k : Braces b) → IsGroup iri MOST_OPEN names b (one_block (map (λ p. p.pattern) (triples_after None None (items_after iri names 0 b)))) (names_after names 0 b)
+block_group : (iri : Iri) (names : List (List ℕ)) (b : List Word) (k : Braces b) → IsGroup iri MOST_OPEN names b (one_block (block_patterns iri names b)) (names_after names 0 b)
 block_group iri names b k = pick k.inner_is
   where
-    same : map (λ p. p.pattern) (triples_after None None (items_after iri names 0 b)) ≡ patterns_of iri names k.inner
+    same : block_patterns iri names b ≡ block_patterns iri names k.inner
     same = ap (λ (is : List Item). map (λ p. p.pattern) (triples_after None None is)) (braced_items iri names b k)
 
-    made : IsGroup iri MOST_OPEN names b (one_block (patterns_of iri names k.inner)) (names_after names 0 k.inner) → IsGroup iri MOST_OPEN names b (one_block (map (λ p. p.pattern) (triples_after None None (items_after iri names 0 b)))) (names_after names 0 b)
-    made g = subst (λ (l : List Pattern). IsGroup iri MOST_OPEN names b (one_block l) (names_after names 0 b)) (sym same) (subst (λ (l : List (List ℕ)). IsGroup iri MOST_OPEN names b (one_block (patterns_of iri names k.inner)) l) (sym (braced_names names b k)) g)
+    made : IsGroup iri MOST_OPEN names b (one_block (block_patterns iri names k.inner)) (names_after names 0 k.inner) → IsGroup iri MOST_OPEN names b (one_block (block_patterns iri names b)) (names_after names 0 b)
+    made g = subst (λ (l : List Pattern). IsGroup iri MOST_OPEN names b (one_block l) (names_after names 0 b)) (sym same) (subst (λ (l : List (List ℕ)). IsGroup iri MOST_OPEN names b (one_block (block_patterns iri names k.inner)) l) (sym (braced_names names b k)) g)
 
-    pick : Is (maybe grammar.block) k.inner → IsGroup iri MOST_OPEN names b (one_block (map (λ p. p.pattern) (triples_after None None (items_after iri names 0 b)))) (names_after names 0 b)
+    pick : Is (maybe grammar.block) k.inner → IsGroup iri MOST_OPEN names b (one_block (block_patterns iri names b)) (names_after names 0 b)
     pick (inl m) =
         let r = block_made iri names k.inner m in
         let s = block_some (items_after iri names 0 k.inner) r.1.triples r.1.produced in
         let some : r.0 ≡ s.0.pattern ∷ map (λ p. p.pattern) s.1 = r.1.patterns ∙ ap (map (λ (p : Placed). p.pattern)) s.2 in
-        let tree : one_block (patterns_of iri names k.inner) ≡ trees.block r.0 = ap one_block (block_is_read iri names k.inner r.0 (names_after names 0 k.inner) r.1 ∙ some) ∙ ap trees.block (sym some) in
+        let tree : one_block (block_patterns iri names k.inner) ≡ trees.block r.0 = ap one_block (block_is_read iri names k.inner r.0 (names_after names 0 k.inner) r.1 ∙ some) ∙ ap trees.block (sym some) in
         made (record {
           open_brace = k.brace;
           close_brace = k.close;
@@ -243,7 +240,7 @@ block_group iri names b k = pick k.inner_is
           closes = k.closes;
           are_elements = (e, ap (names_after names 0) e);
           apart = tt;
-          is = ap (λ (l : List Word). one_block (patterns_of iri names l)) e;
+          is = ap (λ (l : List Word). one_block (block_patterns iri names l)) e;
         })
 
 -- the SELECT part has no DISTINCT

@@ -6,8 +6,7 @@ use Rattle.group_query.specs.declared.step.Step.{Step}
 use Rattle.group_query.specs.declared.step.Step.TheVariants as steps
 use Rattle.group_query.specs.Trees.{Tree, block, empty, join, optional, union, steps_of}
 use Rattle.group_parser.specs.declared.walk.Opener.TheVariants as openers
-use Rattle.group_parser.specs.declared.walk.Pending.{Pending}
-use Rattle.group_parser.specs.declared.walk.Pending.TheVariants.{Nothing, Empty, Written}
+use Rattle.group_parser.specs.declared.walk.Pending.TheVariants.{Nothing, Written}
 use Rattle.group_parser.specs.declared.walk.Frame.{Frame}
 use Rattle.group_parser.specs.Groups.{joined}
 use Rattle.group_parser.specs.Walks as walks

@@ -5,9 +5,8 @@ use Rattle.std.specs.Str.{chars, IsUtf8, IsValidUpTo}
 use Rattle.std.proofs.lemmas.Str.{utf8_valid_len-IsValidUpTo}
 use Rattle.bgp_core.specs.Queries.{QueryData}
 use Rattle.query_tokens.specs.declared.piece.TheConstants.{LONGEST_QUERY}
-use Rattle.query_tokens.specs.declared.piece.Piece.{Piece}
-use Rattle.query_tokens.specs.Pieces.{AreTokens, byte_place}
-use Rattle.query_tokens.proofs.Pieces.{one_tokens, one_fault, apart}
+use Rattle.query_tokens.specs.Pieces.{byte_place}
+use Rattle.query_tokens.proofs.Pieces.{one_tokens, one_fault}
 use Rattle.query_grammar.specs.declared.kind.Kind.{Kind}
 use Rattle.query_grammar.specs.Groups.{IsGroupQuery, IsGroupFault}
 use Rattle.query_grammar.proofs.GroupFaults.{one_place}
@@ -28,7 +27,6 @@ use Rattle.group_faults.specs.declared.fault.GroupWhy.TheVariants.{Basic, TooDee
 use Rattle.group_faults.specs.Signs.{runs_of}
 use Rattle.group_faults.specs.Faults.{triples_in, deep_from, shared_from, fault_at, basic_or, block_fault, group_fault, ReadsGroupWords, IsGroupGrammarAt, IsLaterGroupFault, GroupFaultAt}
 use Rattle.group_parser.specs.Groups.{IsGroup}
-use Rattle.group_parser.specs.Walks.{steps_read, names_read}
 use Rattle.group_parser.specs.Texts.{has_distinct, IsGroupIn, IsGroupText, ReadsGroups}
 use Rattle.group_parser.proofs.Walked.{group_read}
 use Rattle.group_parser.proofs.Made.{IsShallow}

@@ -1,11 +1,10 @@
 -- One token of the walk over a group.
-use Rattle.std.proofs.Common.{ℕ, ◌≡◌, ◌+◌, ◌-◌, ◌<◌, ◌≤◌, Bool, true, false, if◌then◌else◌, List, [], ◌∷◌, ◌++◌, Option, refl, sym, ap, ◌∙◌, take, drop, length, get_or, arith}
+use Rattle.std.proofs.Common.{ℕ, ◌≡◌, ◌+◌, ◌-◌, ◌<◌, ◌≤◌, Bool, true, if◌then◌else◌, List, [], ◌∷◌, ◌++◌, Option, sym, ap, ◌∙◌, take, drop, length, get_or, arith}
 use Rattle.std.proofs.lemmas.List.{drop_all}
 use Rattle.query_words.specs.declared.word.Word.{Word}
 use Rattle.pattern_parser.specs.Items.{names_after}
-use Rattle.group_query.specs.declared.step.Step.{Step}
 use Rattle.group_faults.specs.Signs.{sign_of, is_other}
-use Rattle.group_faults.proofs.Runs.{run_more, at_token, no_run}
+use Rattle.group_faults.proofs.Runs.{run_more, at_token}
 use Rattle.group_parser.specs.Walks.{Walking, Walked, with_sign, with_run, walked, walked_from, whole_walk, finished, steps_read}
 
 abbrev pub Iri : Type 0
@@ -20,17 +19,6 @@ other_walk iri names w ws from i t h l e o =
     (ap (walked iri names w run) (at_token ws i t l e) ∙
     ap (λ (b : Bool). if b then walked iri names w (run ++ t ∷ []) tail else walked iri (names_after names 0 run) (with_sign (sign_of t.value) (with_run iri names run w)) [] tail) o ∙
     ap (λ (r : List Word). walked iri names w r tail) (run_more ws from i t h l e))
-
--- a sign
-pub sign_walk : (iri : Iri) (names : List (List ℕ)) (w : Walking) (ws : List Word) (from i : ℕ) (t : Word) → i < length ws → t ≡ get_or ws i t → is_other (sign_of t.value) ≡ false → walked_from iri (names_after names 0 (take (i - from) (drop from ws))) (with_sign (sign_of t.value) (with_run iri names (take (i - from) (drop from ws)) w)) (i + 1) (i + 1) ws ≡ walked_from iri names w from i ws
-sign_walk iri names w ws from i t l e o =
-    let run = take (i - from) (drop from ws) in
-    let tail = drop (i + 1) ws in
-    let next = with_sign (sign_of t.value) (with_run iri names run w) in
-    sym
-    (ap (walked iri names w run) (at_token ws i t l e) ∙
-    ap (λ (b : Bool). if b then walked iri names w (run ++ t ∷ []) tail else walked iri (names_after names 0 run) next [] tail) o ∙
-    ap (λ (r : List Word). walked iri (names_after names 0 run) next r tail) (sym (no_run ws (i + 1))))
 
 -- behind the last token
 pub last_walk : (iri : Iri) (names : List (List ℕ)) (w : Walking) (ws : List Word) (from i : ℕ) → length ws ≤ i → walked_from iri names w from i ws ≡ walked iri names w (take (i - from) (drop from ws)) []

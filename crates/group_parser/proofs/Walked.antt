@@ -1,5 +1,5 @@
 -- The walk over the tokens of a group writes the steps of the tree that its productions give.
-use Rattle.std.proofs.Common.{ℕ, zero, suc, ◌≡◌, Bool, true, false, if◌then◌else◌, map, List, [], ◌∷◌, ◌++◌, Option, Some, None, refl, sym, ap, subst, ◌∙◌, append_assoc, inr}
+use Rattle.std.proofs.Common.{ℕ, zero, suc, ◌≡◌, Bool, true, false, if◌then◌else◌, map, List, [], ◌∷◌, ◌++◌, Option, None, refl, sym, ap, subst, ◌∙◌, append_assoc, inr}
 use Rattle.std.proofs.lemmas.List.{append-nil}
 use Rattle.bgp_core.specs.declared.pattern.Part.{Part}
 use Rattle.bgp_core.specs.declared.pattern.Pattern.{Pattern}
@@ -18,22 +18,22 @@ use Rattle.pattern_parser.specs.declared.item.Item.{Item}
 use Rattle.pattern_parser.specs.declared.item.Item.TheVariants as items
 use Rattle.pattern_parser.specs.Names.{name_text, with_name}
 use Rattle.pattern_parser.specs.Items.{items_after, names_after, more}
-use Rattle.pattern_parser.specs.Triples.{Placed, placed, triples_after}
+use Rattle.pattern_parser.specs.Triples.{Placed, placed, triples_after, block_triples, block_patterns}
 use Rattle.pattern_parser.specs.Productions as productions
 use Rattle.pattern_parser.proofs.Splits.{Is, only_all}
-use Rattle.pattern_parser.proofs.Blocks.{It, mark_read}
+use Rattle.pattern_parser.proofs.Blocks.{mark_read}
 use Rattle.pattern_parser.proofs.Produced.{body_read}
 use Rattle.group_query.specs.declared.step.Step.{Step}
-use Rattle.group_query.specs.Trees.{Tree, block, empty, join, optional, union, steps_of}
+use Rattle.group_query.specs.Trees.{Tree, block, empty, optional, union, steps_of}
 use Rattle.group_faults.specs.declared.sign.Sign.{Sign}
 use Rattle.group_faults.specs.declared.sign.Sign.TheVariants as signs
 use Rattle.group_faults.specs.Signs.{sign_of, is_other}
 use Rattle.group_parser.specs.declared.walk.Opener.{Opener}
 use Rattle.group_parser.specs.declared.walk.Opener.TheVariants as openers
 use Rattle.group_parser.specs.declared.walk.Frame.{Frame}
-use Rattle.group_parser.specs.Groups.{Element, Triples, Groups, Optional, joined, united, with_element, translated, AreApart, Reading, IsBlock, IsMaybeDot, AreUnions, AreGroups, IsOptional, IsElement, AreElements, IsBraced, IsGroup}
-use Rattle.group_parser.specs.Walks.{Walking, Walked, begun, settled, ready, ready_by, opened, closed, closed_in, with_sign, with_block, with_patterns, patterns_of, with_run, walked, whole_walk, finished, steps_read, names_read}
-use Rattle.group_parser.proofs.States.{written_steps, is_empty, in_group, in_part, behind, settled_part, settled_block, union_behind, optional_behind, entered_is, finished_is}
+use Rattle.group_parser.specs.Groups.{Element, Triples, Groups, Optional, joined, united, translated, AreApart, Reading, IsBlock, IsMaybeDot, AreUnions, AreElements, IsBraced, IsGroup}
+use Rattle.group_parser.specs.Walks.{Walking, Walked, begun, settled, ready, ready_by, opened, closed_in, with_sign, with_block, with_patterns, with_run, walked, whole_walk, finished, steps_read, names_read}
+use Rattle.group_parser.proofs.States.{is_empty, in_group, in_part, behind, settled_part, settled_block, union_behind, optional_behind, entered_is, finished_is}
 
 abbrev pub Iri : Type 0
 Iri = List ℕ → Option (List ℕ)
@@ -79,12 +79,12 @@ dot_other [] h = tt
 dot_other (d ∷ []) h = (ap (λ (v : Value). is_other (sign_of v)) h, tt)
 dot_other (d ∷ e ∷ ws) h = absurd h
 
-dot_items : (iri : Iri) (names : List (List ℕ)) (run ws : List Word) → IsMaybeDot run → triples_after None None (items_after iri names 0 (run ++ ws)) ≡ triples_after None None (items_after iri names 0 ws)
+dot_items : (iri : Iri) (names : List (List ℕ)) (run ws : List Word) → IsMaybeDot run → block_triples iri names (run ++ ws) ≡ block_triples iri names ws
 dot_items iri names [] ws h = refl
 dot_items iri names (d ∷ []) ws h = ap (triples_after None None) (mark_read kinds.Dot refl iri names d ws (ap kind_of h))
 dot_items iri names (d ∷ e ∷ us) ws h = absurd h
 
-pub dot_patterns : (iri : Iri) (names : List (List ℕ)) (run ws : List Word) → IsMaybeDot run → patterns_of iri names (run ++ ws) ≡ patterns_of iri names ws
+pub dot_patterns : (iri : Iri) (names : List (List ℕ)) (run ws : List Word) → IsMaybeDot run → block_patterns iri names (run ++ ws) ≡ block_patterns iri names ws
 dot_patterns iri names run ws h = ap (map (λ (p : Placed). p.pattern)) (dot_items iri names run ws h)
 
 pub dot_names : (names : List (List ℕ)) (run ws : List Word) → IsMaybeDot run → names_after names 0 (run ++ ws) ≡ names_after names 0 ws
@@ -96,7 +96,7 @@ dot_names names (d ∷ e ∷ us) ws h = absurd h
 dot_flush : (iri : Iri) (names : List (List ℕ)) (w : Walking) (run ts : List Word) → IsMaybeDot run → BeginsSign ts → walked iri names w run ts ≡ walked iri names w [] ts
 dot_flush iri names w run ts h b =
     let n : names_after names 0 run ≡ names = ap (names_after names 0) (sym (append-nil run)) ∙ dot_names names run [] h in
-    let p : patterns_of iri names run ≡ [] = ap (patterns_of iri names) (sym (append-nil run)) ∙ dot_patterns iri names run [] h in
+    let p : block_patterns iri names run ≡ [] = ap (block_patterns iri names) (sym (append-nil run)) ∙ dot_patterns iri names run [] h in
     flush iri names w run ts b ∙ ap (λ (ns : List (List ℕ)). walked iri ns (with_run iri names run w) [] ts) n ∙ ap (λ (ps : List Pattern). walked iri names (with_patterns ps w) [] ts) p
 
 -- ---- blocks
@@ -134,7 +134,7 @@ block_some is ts b =
     let first : b.first.1 ≡ o.0 ∷ (o.1 ++ productions.triples_of b.first_is.more) = b.first_is.triples_are ∙ ap (λ (l : List Placed). l ++ productions.triples_of b.first_is.more) o.2 in
     (o.0, (o.1 ++ productions.triples_of b.first_is.more) ++ productions.triples_of b.more, b.triples_are ∙ ap (λ (l : List Placed). l ++ productions.triples_of b.more) first)
 
-pub block_is_read : (iri : Iri) (names : List (List ℕ)) (ws : List Word) (ps : List Pattern) (names' : List (List ℕ)) → IsBlock iri names ws ps names' → patterns_of iri names ws ≡ ps
+pub block_is_read : (iri : Iri) (names : List (List ℕ)) (ws : List Word) (ps : List Pattern) (names' : List (List ℕ)) → IsBlock iri names ws ps names' → block_patterns iri names ws ≡ ps
 block_is_read iri names ws ps names' b =
     ap (map (λ (p : Placed). p.pattern)) (sym (body_read (items_after iri names 0 ws) b.triples (inr b.produced))) ∙ sym b.patterns
 
@@ -210,7 +210,7 @@ walk_elements iri G g o (Triples ps ∷ es) names ws names' w run x t fs rest m 
     let r = walk_elements iri G g o es m.2 m.1 names' (with_block ps w) [] x (joined t (block ps)) fs rest m.5 (apart_rest (Triples ps) es a) tt (settled_block w x t fs ps h) next b in
     let all : ws ++ rest ≡ u ++ tail = ap (λ (l : List Word). l ++ rest) m.3 ∙ append_assoc u m.1 rest in
     let ns : names_after names 0 (run ++ u) ≡ m.2 = dot_names names run u d ∙ sym k.names_are in
-    let qs : patterns_of iri names (run ++ u) ≡ ps = dot_patterns iri names run u d ∙ block_is_read iri names u ps m.2 k in (
+    let qs : block_patterns iri names (run ++ u) ≡ ps = dot_patterns iri names run u d ∙ block_is_read iri names u ps m.2 k in (
       r.0,
       r.1,
       ap (walked iri names w run) all ∙ take_others iri names w run u tail (block_other u k.is) ∙ flush iri names w (run ++ u) tail sign ∙

@@ -1,5 +1,5 @@
 -- Groups by their productions (SPARQL 1.1, section 19.8), each with the pattern that it stands for (18.2.2.6).
-use Rattle.std.specs.Prelude.{ℕ, zero, suc, ◌≡◌, Bool, List, [], ◌∷◌, ◌++◌, map, Option}
+use Rattle.std.specs.Prelude.{ℕ, zero, suc, ◌≡◌, List, [], ◌∷◌, ◌++◌, map, Option}
 use Rattle.regular_expressions.specs.Regular.{Matches}
 use Rattle.query_grammar.specs.Grammar as grammar
 use Rattle.query_grammar.specs.Grammar.{codes}

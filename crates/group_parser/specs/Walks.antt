@@ -1,9 +1,9 @@
 -- How the reader goes over the tokens of a group. It serves the reader and the proofs alone.
-use Rattle.std.specs.Prelude.{ℕ, ◌-◌, take, drop, Bool, true, false, List, [], ◌∷◌, ◌++◌, map, Option, None, if◌then◌else◌}
+use Rattle.std.specs.Prelude.{ℕ, ◌-◌, take, drop, Bool, true, false, List, [], ◌∷◌, ◌++◌, Option, if◌then◌else◌}
 use Rattle.bgp_core.specs.declared.pattern.Pattern.{Pattern}
 use Rattle.query_words.specs.declared.word.Word.{Word}
-use Rattle.pattern_parser.specs.Items.{items_after, names_after}
-use Rattle.pattern_parser.specs.Triples.{triples_after}
+use Rattle.pattern_parser.specs.Items.{names_after}
+use Rattle.pattern_parser.specs.Triples.{block_patterns}
 use Rattle.group_query.specs.declared.step.Step.{Step}
 use Rattle.group_query.specs.declared.step.Step.TheVariants as steps
 use Rattle.group_faults.specs.declared.sign.Sign.{Sign}
@@ -116,11 +116,8 @@ abbrev pub with_patterns : List Pattern → Walking → Walking
 with_patterns [] w = w
 with_patterns (p ∷ ps) w = with_block (p ∷ ps) w
 
-abbrev pub patterns_of : (List ℕ → Option (List ℕ)) → List (List ℕ) → List Word → List Pattern
-patterns_of iri names run = map (λ p. p.pattern) (triples_after None None (items_after iri names 0 run))
-
 abbrev pub with_run : (List ℕ → Option (List ℕ)) → List (List ℕ) → List Word → Walking → Walking
-with_run iri names run w = with_patterns (patterns_of iri names run) w
+with_run iri names run w = with_patterns (block_patterns iri names run) w
 
 -- where the reader stands, and the names so far
 pub record Walked : Type 0 where

@@ -1,10 +1,12 @@
 // Tokens, what they say, and the grammar over their kinds.
 ghost use Rattle.std.specs.Prelude.{◌≤◌, length, IfOk};
+ghost use Rattle.query_tokens.specs.declared.piece.TheConstants.{LONGEST_QUERY};
 
 use case_rows::{Case, CaseFault, number_text, truth_text, word_text};
 use query_grammar::grammar::grammar_fault;
 use query_grammar::groups::group_fault;
 use query_grammar::kind::Kind;
+use query_tokens::LONGEST_QUERY;
 use query_tokens::piece::{Piece, PieceFault, pieces};
 use query_words::text::{
     decode, is_a, local_text, prefix_text, resolved_text, same_word, text_after_first, text_of,
@@ -13,22 +15,22 @@ use query_words::word::{Value, Word, kinds_of, words_of};
 use std::alloc::Global;
 use text_base::{OutOfMemory, Text};
 
-/// The characters of a text, at most 262144.
+/// The characters of a text, at most `LONGEST_QUERY`.
 fn chars_in(alloc: Global, text: &str) -> Result<Vec<char>, CaseFault>
-    ensures { IfOk result (λ v. length v.items ≤ 262144) }
+    ensures { IfOk result (λ v. length v.items ≤ LONGEST_QUERY) }
 {
     let Ok(chars) = decode(alloc, text) else {
         return Err(CaseFault::OutOfMemory);
     };
-    if chars.len() > 262144 {
+    if chars.len() > LONGEST_QUERY {
         return Err(CaseFault::Row);
     }
     Ok(chars)
 }
 
-/// `text`: the characters of a text, at most 262144.
+/// `text`: the characters of a text, at most `LONGEST_QUERY`.
 fn chars_of(alloc: Global, case: &mut Case<'_>) -> Result<Vec<char>, CaseFault>
-    ensures { IfOk result (λ v. length v.items ≤ 262144) }
+    ensures { IfOk result (λ v. length v.items ≤ LONGEST_QUERY) }
 {
     let text = case.text(alloc, "text")?;
     chars_in(alloc, text.as_str())
@@ -73,7 +75,7 @@ pub fn piece_places(alloc: Global, case: &mut Case<'_>) -> Result<String, CaseFa
 
 /// The words of characters that are tokens.
 fn words_in(alloc: Global, chars: &[char]) -> Result<Vec<Word>, CaseFault>
-    requires { length chars.now ≤ 262144 }
+    requires { length chars.now ≤ LONGEST_QUERY }
 {
     let pieces = match pieces(alloc, chars) {
         Ok(pieces) => pieces,
@@ -193,7 +195,7 @@ fn given(alloc: Global, text: Result<Text, OutOfMemory>) -> Result<String, CaseF
 
 /// What the characters of a token say, or whether they are a word.
 fn shown(alloc: Global, chars: &[char], show: &str) -> Result<String, CaseFault>
-    requires { length chars.now ≤ 262144 }
+    requires { length chars.now ≤ LONGEST_QUERY }
 {
     match show {
         "resolved" => given(alloc, resolved_text(alloc, chars)),

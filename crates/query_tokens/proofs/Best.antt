@@ -94,9 +94,6 @@ stopped cs i s d best below kept e =
     let at = one_more cs i s d None below kept.at e in
     over cs i best (omega arith) (λ k m l h t. none_longer cs (i + 1) m k at (omega arith) t) kept.so_far
 
-pub ended : (cs : List ℕ) (i : ℕ) (s : State) (best : Option (PieceKind × ℕ)) → i ≡ length cs → Kept cs i s best → Found cs best
-ended cs i s best e kept = over cs i best (omega arith) (λ k m l h t. absurd (omega arith)) kept.so_far
-
 pub found_match : (cs : List ℕ) (o : Option (PieceKind × ℕ)) → Found cs o → MatchOption o (NoToken cs) (λ p. IsLongest cs p.0 p.1)
 found_match cs None f = f
 found_match cs (Some p) f = f

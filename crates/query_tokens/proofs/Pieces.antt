@@ -21,9 +21,6 @@ pub record Front (cs : List ℕ) (n : ℕ) (ts : List Piece) : Type 0 where
   pub within : n ≤ length cs
   pub are : ts ≡ placed cs 0 pieces
 
-pub begins : (cs : List ℕ) → Front cs 0 []
-begins cs = record { pieces = []; cover = refl; within = omega arith; are = refl }
-
 pub not_empty : (cs : List ℕ) (k : PieceKind) (n : ℕ) → IsLongest cs k n → 0 < n
 not_empty cs k zero l = absurd (none (token-ends cs 0 Start k (no_start cs) l.is))
   where
@@ -62,15 +59,6 @@ one_more cs rest n old new k len e f l are =
       within = omega arith;
       are = are ∙ ap (λ (l : List Piece). l ++ placed_one cs n k len) f.are ∙ ap (λ (m : ℕ). placed cs 0 f.pieces ++ placed_one cs m k len) from_zero ∙ sym (placed_more cs 0 n cs f.pieces k len f.cover);
     }
-
-pub all_read : (cs : List ℕ) (n : ℕ) (ts : List Piece) → length cs ≤ n → Front cs n ts → AreTokens cs ts
-all_read cs n ts h f =
-    let w = f.within in
-    let e : n ≡ length cs = omega arith in
-    record { pieces = f.pieces; cover = subst (λ (m : ℕ). Covers cs f.pieces m) e f.cover; are = f.are }
-
-pub stopped : (cs rest : List ℕ) (n : ℕ) (ts : List Piece) → n < length cs → rest ≡ drop n cs → Front cs n ts → NoPiece rest → IsTokenFault cs n
-stopped cs rest n ts h e f none = record { pieces = f.pieces; cover = f.cover; within = h; none = subst NoPiece e none }
 
 -- ---- one reading
 

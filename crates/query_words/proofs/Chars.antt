@@ -1,8 +1,8 @@
 -- Characters, their bytes, and words in any case.
-use Rattle.std.proofs.Common.{ℕ, ◌≡◌, ◌+◌, ◌<◌, ◌≤◌, true, false, List, [], ◌∷◌, ◌++◌, sym, ap, subst, ◌∙◌, map, take, length, get_or, arith}
+use Rattle.std.proofs.Common.{ℕ, ◌≡◌, ◌<◌, ◌≤◌, true, false, List, sym, ap, subst, ◌∙◌, map, take, length, get_or, arith}
 use Rattle.std.specs.Char.{to_ascii_lowercase}
 use Rattle.std.specs.Str.{bytes_eq, chars, IsUtf8}
-use Rattle.std.proofs.lemmas.List.{take_more, take_all, map-append}
+use Rattle.std.proofs.lemmas.List.{take_all}
 use Rattle.std.proofs.Math.ListN.{get_or-map}
 use Rattle.std.proofs.lemmas.Str.{length-le-encodes, encodes-chars}
 use Rattle.std.proofs.lemmas.Slice.Eq.{bytes_eq-Decides}
@@ -13,13 +13,6 @@ use Rattle.query_words.specs.Texts.{same_word}
 -- the first i characters are those of the word, in any case
 pub record SameSoFar (word text : List ℕ) (i : ℕ) : Type 0 where
   pub same : map to_ascii_lowercase (take i text) ≡ take i word
-
-pub same_more : (word text : List ℕ) (i c w : ℕ) → i < length text → i < length word → c ≡ get_or text i c → w ≡ get_or word i w → to_ascii_lowercase c ≡ w → SameSoFar word text i → SameSoFar word text (i + 1)
-same_more word text i c w below under at at_word e h =
-    let split : take (i + 1) text ≡ take i text ++ c ∷ [] = take_more text i c below ∙ ap (λ (x : ℕ). take i text ++ x ∷ []) (sym at) in
-    let word_split : take (i + 1) word ≡ take i word ++ w ∷ [] = take_more word i w under ∙ ap (λ (x : ℕ). take i word ++ x ∷ []) (sym at_word) in
-    let both : map to_ascii_lowercase (take i text) ++ to_ascii_lowercase c ∷ [] ≡ take i word ++ w ∷ [] = let s = h.same in cc in
-    record { same = ap (map to_ascii_lowercase) split ∙ map-append to_ascii_lowercase (take i text) (c ∷ []) ∙ both ∙ sym word_split }
 
 pub same_all : (word text : List ℕ) (i : ℕ) → length text ≤ i → length word ≤ i → SameSoFar word text i → same_word word text ≡ true
 unfolding same_word

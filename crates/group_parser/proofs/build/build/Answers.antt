@@ -3,7 +3,7 @@ use Rattle.std.specs.BTreeMap.{get_by_text}
 use Rattle.pattern_parser.specs.Items.{names_after}
 use Rattle.pattern_parser.proofs.Fits.{selected_fit}
 use Rattle.group_parser.specs.Texts.{IsGroupIn}
-use Rattle.group_parser.proofs.Building.{Built, built, built_query}
+use Rattle.group_parser.proofs.Building.{built, built_query}
 use Rattle.group_parser.proofs.build.build.Goals as goal
 
 pub new-requires-clause-postfix : goal.new-requires-clause-postfix

@@ -1,4 +1,3 @@
-use Rattle.std.proofs.Common.{ℕ, List, Option}
 use Rattle.pattern_parser.specs.Prefixes.{iris}
 use Rattle.pattern_parser.proofs.Fits.{patterns_fit_at, names_grow_at, selected_fit}
 use Rattle.pattern_parser.proofs.build.build.Goals as goal
