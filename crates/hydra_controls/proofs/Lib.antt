@@ -6,5 +6,4 @@ pub mod TableLaws
 pub mod LineLaws
 pub mod WholeLaws
 pub mod LineRows
-pub mod PageAddresses
 pub mod Classes

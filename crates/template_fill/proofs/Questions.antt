@@ -10,7 +10,6 @@ use Rattle.std.proofs.lemmas.List.{map-append, length-map}
 use Rattle.std.proofs.lemmas.List.Concat.{flat_map-cons}
 use Rattle.std.proofs.lemmas.List.Elements.{All-nil, All-cons, filter-append}
 use Rattle.std.proofs.lemmas.List.Folds.{list_all-append}
-use Rattle.tpf_base.proofs.AddressBytes.{address_bytes}
 use Rattle.list_laws.proofs.Tests.{and_first, and_second}
 use Rattle.list_laws.proofs.Each.{all_append}
 use Rattle.form_urlencoded.specs.Form.{raw_pairs}
@@ -23,23 +22,23 @@ use Rattle.rdf_terms.specs.Kept.{IsKeptSlot, AreKept}
 use Rattle.rdf_terms.specs.Selections.{Selection, IsKeptSelection}
 use Rattle.tpf_base.specs.Decimals.{decimal_text}
 use Rattle.tpf_base.proofs.DecimalTexts.{decimal_text-digits, decimal_text-some, decimal_text-value}
-use Rattle.tpf_base.specs.Addresses.{Address, IsAddress, is_path_byte, is_address_byte, query_text, target_of, address_text, authority_text}
+use Rattle.tpf_base.specs.Addresses.{Address, IsAddress, is_path_byte, is_address_byte, query_text, target_of, address_text}
 use Rattle.template_fill.specs.Explicit.{explicit_form, slot_of}
-use Rattle.template_fill.specs.ReadAddress.{when, ◌>>=◌, with_target}
+use Rattle.template_fill.specs.ReadAddress.{when, ◌>>=◌}
 use Rattle.template_fill.specs.Templates.{next_mark, pair_text}
 use Rattle.template_fill.specs.Values.{is_unreserved, encoded_byte, encoded_value}
 use Rattle.template_fill.specs.Rows.{accepted, row_place, row_text, row_pair, rows_text, rows_of, few_rows_of}
 use Rattle.template_fill.specs.Pages.{slot_text, places_text, selection_text, page_mark, page_pair, page_address}
-use Rattle.template_fill.specs.WebAddress.{IsNormal}
+use Rattle.template_fill.specs.Authorities.{address_of_page}
 use Rattle.template_fill.specs.Metadata.{Config}
 use Rattle.template_fill.specs.Configurations.{IsConfig}
 use Rattle.template_fill.specs.Answers.{Question, form_text, parameters, values_under, one_value, slot_under, page_number, rows_under, asked_by, question_of, read_as, AsksFor, ReadsAddress}
-use Rattle.template_fill.proofs.Addresses.{is_host-lower, is_lower-lower, utf8-ascii, is_ascii-address, normal_is_address, target-parts}
-use Rattle.template_fill.proofs.Authorities.{port_range, IsRootedPath, kept_path}
-use Rattle.template_fill.proofs.PageTexts.{places-next, places-text, more-address, mark-behind, no-rows}
+use Rattle.template_fill.proofs.Addresses.{utf8-ascii, is_ascii-address, target-parts}
+use Rattle.template_fill.proofs.Authorities.{IsRootedPath, kept_path, own_text, page_is}
+use Rattle.template_fill.proofs.PageTexts.{places-next, places-text, mark-behind, no-rows}
 use Rattle.template_fill.proofs.Passing.{list_all-wider}
 use Rattle.template_fill.proofs.Quotes.{reads_back, forms_are_text}
-use Rattle.template_fill.proofs.Reading.{parts-target, one_address}
+use Rattle.template_fill.proofs.Reading.{parts-target}
 use Rattle.template_fill.proofs.ReadRows.{rows-read}
 use Rattle.template_fill.proofs.Values.{value-address, unreserved-address, digit-unreserved}
 use Rattle.template_fill.proofs.Written.{utf8_bytes, ampersand_apart, value_reads, marked, behind_mark, IsWhole, pairs_read}
@@ -389,34 +388,15 @@ base_path base is = kept_path is.text base is.address
 pub path_bytes : (path : List ℕ) → IsRootedPath path → list_all is_path_byte path ≡ true
 path_bytes path is = rw is.slash is.bytes
 
-pub longer_normal : (base : Address) (more : List ℕ) → IsBase base → list_all is_address_byte more ≡ true → IsNormal base.host base.port (base.path ++ more)
-longer_normal base more is all =
-    let path = base_path base is in
-    let range = port_range is.address.typed_port base.port is.address.port in
-    record {
-      is_host = rw is.address.host_kept (is_host-lower is.address.typed_host is.address.host);
-      lower = rw is.address.host_kept (is_lower-lower is.address.typed_host);
-      low = range.0;
-      high = range.1;
-      after_slash = path.after_slash ++ more;
-      slash = ap (λ (front : List ℕ). front ++ more) path.slash;
-      bytes = rw (list_all-append is_address_byte path.after_slash more, address_bytes path.after_slash path.bytes) all;
-    }
-
-pub base_text : (base : Address) (more : List ℕ) → base.query ≡ None → address_text base ++ more ≡ codes "http://" ++ (authority_text base.host base.port ++ (base.path ++ more))
-base_text base more none =
-    ap (λ (query : Option (List ℕ)). (codes "http://" ++ (authority_text base.host base.port ++ (base.path ++ query_text query))) ++ more) none
-    ∙ ap (λ (path : List ℕ). (codes "http://" ++ (authority_text base.host base.port ++ path)) ++ more) (append-nil base.path)
-    ∙ ap (λ (rest : List ℕ). codes "http://" ++ rest) (append_assoc (authority_text base.host base.port) base.path more)
-
-page_target : (base : Address) (s : Selection) (k : ℕ) (address : Address) → IsBase base → list_all is_ascii_digit (decimal_text k) ≡ true → IsAddress (page_address base s k) address
-    → target_of address ≡ base.path ++ (selection_text s ++ page_pair (page_mark (selection_text s)) k)
-unfolding page_address
-page_target base s k address is digits given =
+-- the target of a page's address
+page_target : (base : Address) (s : Selection) (k : ℕ) (address : Address) → IsBase base → IsAddress (page_address base s k) address → target_of address ≡ base.path ++ (selection_text s ++ page_pair (page_mark (selection_text s)) k)
+unfolding address_of_page
+page_target base s k address is given =
     let more : List ℕ = selection_text s ++ page_pair (page_mark (selection_text s)) k in
-    let own = normal_is_address base.host (base.path ++ more) base.port (longer_normal base more is (more-address s k digits)) in
-    let same : IsAddress (page_address base s k) (with_target base.host base.port (base.path ++ more)) = subst (λ (text : List ℕ). IsAddress text (with_target base.host base.port (base.path ++ more))) (sym (base_text base more is.no_query)) own in
-    ap target_of (one_address (page_address base s k) address (with_target base.host base.port (base.path ++ more)) given same) ∙ target-parts (base.path ++ more)
+    ap target_of (page_is base address s k (own_text is.text base is.address) given)
+    ∙ target-parts (target_of base ++ more)
+    ∙ ap (λ (query : Option (List ℕ)). (base.path ++ query_text query) ++ more) is.no_query
+    ∙ ap (λ (path : List ℕ). path ++ more) (append-nil base.path)
 
 -- ---- the law
 
@@ -447,5 +427,5 @@ reads_address_back config s k address valid kept low given =
     let base = config.base in
     let is = is_base config valid in
     let digits = decimal_text-digits k in
-    let target = page_target base s k address is digits given ∙ ap (λ (more : List ℕ). base.path ++ more) (more_marked s k ∙ marked_query (written s k)) in
+    let target = page_target base s k address is given ∙ ap (λ (more : List ℕ). base.path ++ more) (more_marked s k ∙ marked_query (written s k)) in
     subst (AsksFor config (read_as config.rows s) k) (sym target) (target_asks config s k is kept digits (decimal_text-some k) (decimal_text-value k) low)
