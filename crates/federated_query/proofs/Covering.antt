@@ -14,12 +14,12 @@ use Rattle.template_fill.specs.Configurations.{IsHistory, VersionsAreValid}
 use Rattle.fragment_page.specs.declared.page.Page.{Page}
 use Rattle.bgp_core.specs.Queries.{QueryData}
 use Rattle.request_pool.specs.Pools.{Pooled, Ask, empty_pool}
-use Rattle.join_core.specs.Blocks.{is_askable}
-use Rattle.join_core.specs.Beginnings.{no_names_bound, solutions_of}
-use Rattle.join_core.specs.Evaluations.{HasHome}
-use Rattle.join_core.specs.Nodes.{plan}
-use Rattle.join_core.specs.Rounds.{RoundData, AreFirst}
-use Rattle.join_core.specs.Worlds.{World, IsWorld, IsOneServer, HasForms}
+use Rattle.request_plan.specs.Blocks.{is_askable}
+use Rattle.request_plan.specs.Beginnings.{no_names_bound, solutions_of}
+use Rattle.request_plan.specs.Evaluations.{HasHome}
+use Rattle.request_plan.specs.Plans.{plan}
+use Rattle.request_plan.specs.Rounds.{RoundData, AreFirst}
+use Rattle.request_plan.specs.Worlds.{World, IsWorld, IsOneServer, HasForms}
 use Rattle.plan_laws.specs.JointWorlds.{union, addresses_at, joint_world}
 use Rattle.plan_laws.proofs.JointWorlds.{one-union}
 use Rattle.joint_pages.specs.Truths.{IsPageOfAll}

@@ -8,9 +8,9 @@ use Rattle.tpf_base.specs.Links.{WireState}
 use Rattle.tpf_base.specs.Marks.{Served}
 use Rattle.template_fill.specs.Answered.{AnsweredGivePages}
 use Rattle.bgp_core.specs.Queries.{QueryData}
-use Rattle.join_core.specs.Nodes.{plan}
-use Rattle.join_core.specs.Worlds.{World}
-use Rattle.join_core.specs.Beginnings.{no_names_bound}
+use Rattle.request_plan.specs.Plans.{plan}
+use Rattle.request_plan.specs.Worlds.{World}
+use Rattle.request_plan.specs.Beginnings.{no_names_bound}
 use Rattle.plan_laws.specs.Fitting.{IsRead, IsAskable, StartsAreRead}
 use Rattle.plan_laws.specs.JointFitting.{ServerData, world_at, IsWithin, IsReadByOne, JointPlansAreRead}
 use Rattle.plan_laws.specs.JointWorlds.{joint_world}

@@ -9,7 +9,7 @@ use Rattle.tpf_base.specs.Links.{WireState}
 use Rattle.template_fill.specs.Authorities.{ShareAuthority}
 use Rattle.template_fill.specs.Responses.{answering, IsHonestAt}
 use Rattle.bgp_core.specs.Queries.{QueryData}
-use Rattle.join_core.specs.Evaluations.{HasHome}
+use Rattle.request_plan.specs.Evaluations.{HasHome}
 use Rattle.tpf_client.specs.Offers.{Publisher, StandsAmong, HasAmong, AreVersions, IsVersionOf, servers_offer}
 use Rattle.tpf_client.specs.Ends.{AnswersAs}
 use Rattle.tpf_client.proofs.Covered.{StandsThere}

@@ -23,9 +23,9 @@ use Rattle.control_reader.specs.Takes.{Takes}
 use Rattle.control_laws.specs.Law.{IsServerForm}
 use Rattle.request_pool.specs.Pools.{Ask}
 use Rattle.pool_laws.specs.Answers.{IsBodyOf}
-use Rattle.join_core.specs.Blocks.{IsBlockSize, is_askable}
-use Rattle.join_core.specs.Rounds.{AreFirst}
-use Rattle.join_core.specs.Worlds.{World, IsWorld, IsOneServer, IsPageAt}
+use Rattle.request_plan.specs.Blocks.{IsBlockSize, is_askable}
+use Rattle.request_plan.specs.Rounds.{AreFirst}
+use Rattle.request_plan.specs.Worlds.{World, IsWorld, IsOneServer, IsPageAt}
 use Rattle.plan_laws.proofs.Servers.{one-address}
 use Rattle.plan_laws.specs.JointWorlds.{addresses_at}
 use Rattle.plan_laws.specs.Servers.{asked_at, server_world}

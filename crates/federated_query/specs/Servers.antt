@@ -3,7 +3,7 @@ use Rattle.std.specs.Prelude.{ℕ, ◌≡◌, ◌&&◌, Bool, true, not, bytes_e
 use Rattle.std.specs.List.{All, list_any}
 use Rattle.tpf_base.specs.Addresses.{Address, authority_of}
 use Rattle.tpf_base.specs.Links.{WireState}
-use Rattle.join_core.specs.Worlds.{World}
+use Rattle.request_plan.specs.Worlds.{World}
 use Rattle.joint_pages.specs.Truths.{IsPageOfAll}
 use Rattle.federation.specs.Beginnings.{FitByRows, joint_rows, joint_plan, none_reported}
 use Rattle.tpf_client.specs.Sources.{Sources, sources_of}

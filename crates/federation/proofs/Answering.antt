@@ -9,14 +9,14 @@ use Rattle.list_laws.proofs.Members.{at_head, in_tail}
 use Rattle.list_laws.proofs.Orders.{same, flat_map_IsPermutation}
 use Rattle.tpf_base.specs.Addresses.{Address}
 use Rattle.fragment_page.specs.declared.page.Page.{Page}
-use Rattle.join_core.specs.declared.evaluation.Answered.{Answered}
-use Rattle.join_core.specs.declared.evaluation.Answered.TheVariants.{Taken, Stranger}
-use Rattle.join_core.specs.declared.joint_page.JointPage.{JointPage}
-use Rattle.join_core.specs.Rounds.{RoundData, addresses_in, NextRoundAtHome}
-use Rattle.join_core.specs.Worlds.{World, IsRoundPageAt}
+use Rattle.request_plan.specs.declared.evaluation.Answered.{Answered}
+use Rattle.request_plan.specs.declared.evaluation.Answered.TheVariants.{Taken, Stranger}
+use Rattle.request_plan.specs.declared.joint_page.JointPage.{JointPage}
+use Rattle.request_plan.specs.Rounds.{RoundData, addresses_in, NextRoundAtHome}
+use Rattle.request_plan.specs.Worlds.{World, IsRoundPageAt}
 use Rattle.join_core.specs.Joins.{JoinData, Suits, owed, out, left_over, tickets_out, IsTrueFor}
 use Rattle.join_core.specs.Outcomes.{AnswerDone, AnswerNumbered, WaitsMore}
-use Rattle.join_core.specs.Evaluations.{Terms, Sizes, NextAtHome, EndsTicket, EndsNumber, OwesAfterAnswer, StandsAfterAnswer}
+use Rattle.request_plan.specs.Evaluations.{Terms, Sizes, NextAtHome, EndsTicket, EndsNumber, OwesAfterAnswer, StandsAfterAnswer}
 use Rattle.join_core.specs.Sound.{KeepsTo, IsKeptSmall}
 use Rattle.plan_laws.specs.JointWorlds.{joint_world}
 use Rattle.joint_pages.specs.Parts.{pages_in}

@@ -10,14 +10,14 @@ use Rattle.list_laws.proofs.Members.{head_or_tail}
 use Rattle.list_laws.proofs.Orders.{same, front, flat_map_IsPermutation}
 use Rattle.list_laws.proofs.Tests.{not_both_ways}
 use Rattle.tpf_base.specs.Addresses.{Address}
-use Rattle.join_core.specs.declared.evaluation.Ask.{Ask}
-use Rattle.join_core.specs.Rounds.{RoundData, addresses_in}
-use Rattle.join_core.specs.Worlds.{World}
+use Rattle.request_plan.specs.declared.evaluation.Ask.{Ask}
+use Rattle.request_plan.specs.Rounds.{RoundData, addresses_in}
+use Rattle.request_plan.specs.Worlds.{World}
 use Rattle.join_core.specs.Nodes.{NodeData}
 use Rattle.join_core.specs.Joins.{JoinData, out, left_over, tickets_out, level_at, HandsOut}
 use Rattle.join_core.specs.JoinAccounts.{is_over}
 use Rattle.join_core.specs.Outcomes.{NothingToAsk}
-use Rattle.join_core.specs.Evaluations.{Terms, Sizes, HasHome, AsksAtHome, HandsOver, NumbersAsk, OwesAfterAsk, StandsAfterAsk, EndsInQuiet}
+use Rattle.request_plan.specs.Evaluations.{Terms, Sizes, HasHome, AsksAtHome, HandsOver, NumbersAsk, OwesAfterAsk, StandsAfterAsk, EndsInQuiet}
 use Rattle.join_core.specs.Sound.{IsKeptSmall, IsOfDepth}
 use Rattle.join_core.proofs.Evaluating.{over-is}
 use Rattle.join_core.proofs.Keeping.{nothing-left}

@@ -6,17 +6,17 @@ use Rattle.std.proofs.lemmas.Bool.{cases_lt}
 use Rattle.std.proofs.lemmas.List.Elements.{All-nil}
 use Rattle.std.proofs.lemmas.Nat.{mul-le}
 use Rattle.bgp_core.specs.Queries.{QueryData}
-use Rattle.join_core.specs.Rounds.{RoundData}
-use Rattle.join_core.specs.Worlds.{World}
+use Rattle.request_plan.specs.Rounds.{RoundData}
+use Rattle.request_plan.specs.Worlds.{World}
 use Rattle.join_core.specs.Joins.{JoinData, tickets_out, Begins}
 use Rattle.join_core.specs.JoinLaws.{begun-left}
-use Rattle.join_core.specs.Evaluations.{Terms}
+use Rattle.request_plan.specs.Evaluations.{Terms}
 use Rattle.join_core.specs.Sound.{KeepsTo, IsKeptSmall}
 use Rattle.plan_laws.specs.JointWorlds.{joint_world}
 use Rattle.joint_pages.specs.Gatherings.{GatheringData}
 use Rattle.joint_pages.specs.Truths.{AreServers, HoldsTrue}
 use Rattle.bgp_core.specs.Solutions.{no_names_bound}
-use Rattle.join_core.specs.Beginnings.{BeginsWith}
+use Rattle.request_plan.specs.Beginnings.{BeginsWith}
 use Rattle.federation.specs.Beginnings.{joint_rows, joint_plan, most_pages}
 use Rattle.federation.specs.Federations.{FederationData, SuitsAll, KeepsAll, KeepsSmall, KeepsRound, IsItsRound, account_of, times}
 

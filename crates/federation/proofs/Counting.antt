@@ -8,8 +8,8 @@ use Rattle.rdf_terms.specs.declared.slots.Slot.TheVariants.{Any}
 use Rattle.rdf_terms.specs.Selections.{Selection, all_of}
 use Rattle.tpf_base.specs.Addresses.{Address}
 use Rattle.template_fill.specs.declared.form.Form.{Form}
-use Rattle.join_core.specs.Rounds.{RoundData, AreFirst}
-use Rattle.join_core.specs.Worlds.{World, IsWorld, IsOneServer}
+use Rattle.request_plan.specs.Rounds.{RoundData, AreFirst}
+use Rattle.request_plan.specs.Worlds.{World, IsWorld, IsOneServer}
 use Rattle.join_core.specs.Joins.{JoinData, Suits}
 use Rattle.plan_laws.specs.JointWorlds.{addresses_at, joint_world}
 use Rattle.joint_pages.specs.Truths.{AreServers, is_one}

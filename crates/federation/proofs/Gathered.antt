@@ -15,9 +15,9 @@ use Rattle.list_laws.proofs.Orders.{same}
 use Rattle.rdf_terms.specs.declared.term.Triple.{Triple}
 use Rattle.tpf_base.specs.Addresses.{Address}
 use Rattle.fragment_page.specs.declared.page.Page.{Page}
-use Rattle.join_core.specs.Evaluations.{HasHome, NextAtHome}
-use Rattle.join_core.specs.Rounds.{RoundData, round_of_one, NextRoundAtHome}
-use Rattle.join_core.specs.Worlds.{World}
+use Rattle.request_plan.specs.Evaluations.{HasHome, NextAtHome}
+use Rattle.request_plan.specs.Rounds.{RoundData, round_of_one, NextRoundAtHome}
+use Rattle.request_plan.specs.Worlds.{World}
 use Rattle.joint_pages.specs.Parts.{PartData, awaited, came, ticket_while, out_while, page_of, tickets_in, pages_in, are_there}
 use Rattle.joint_pages.specs.Gatherings.{GatheringData, HandsPart, TakesPart, round_of, tickets_of, outs_of, is_whole}
 use Rattle.joint_pages.specs.Joined.{added, nexts_of, next_round, new_triples, joined_as}

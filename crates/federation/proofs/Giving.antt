@@ -6,10 +6,10 @@ use Rattle.std.proofs.lemmas.List.Elements.{All-weaker}
 use Rattle.std.proofs.lemmas.List.Sorted.{IsPermutation-refl, IsPermutation-append_right}
 use Rattle.list_laws.proofs.Orders.{flat_map_IsPermutation}
 use Rattle.bgp_core.specs.Solutions.{Places}
-use Rattle.join_core.specs.Rounds.{RoundData, addresses_in}
-use Rattle.join_core.specs.Worlds.{World}
+use Rattle.request_plan.specs.Rounds.{RoundData, addresses_in}
+use Rattle.request_plan.specs.Worlds.{World}
 use Rattle.join_core.specs.Joins.{JoinData, GivesRow, out, left_over}
-use Rattle.join_core.specs.Evaluations.{Terms, Sizes, TakesOne, GivesOwed}
+use Rattle.request_plan.specs.Evaluations.{Terms, Sizes, TakesOne, GivesOwed}
 use Rattle.join_core.specs.Sound.{IsKeptSmall}
 use Rattle.plan_laws.specs.JointWorlds.{joint_world}
 use Rattle.federation.specs.Federations.{FederationData, SuitsAll, KeepsAll, KeepsSmall, IsItsRound, account_of, standing_of, all_wanted, times}

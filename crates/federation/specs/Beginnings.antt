@@ -4,8 +4,8 @@ use Rattle.tpf_base.specs.Addresses.{Address}
 use Rattle.template_fill.specs.declared.form.Form.{Form}
 use Rattle.bgp_core.specs.Queries.{QueryData}
 use Rattle.bgp_core.specs.Solutions.{Places, no_names_bound, solutions_of}
-use Rattle.join_core.specs.Worlds.{World, HasForms}
-use Rattle.join_core.specs.Nodes.{plan}
+use Rattle.request_plan.specs.Worlds.{World, HasForms}
+use Rattle.request_plan.specs.Plans.{plan}
 use Rattle.plan_laws.specs.JointWorlds.{joint_world}
 use Rattle.joint_pages.specs.Truths.{AreServers}
 

@@ -5,12 +5,12 @@ use Rattle.std.specs.List.{All, flat_map}
 use Rattle.std.proofs.lemmas.Bool.Decides.{nat_tests}
 use Rattle.tpf_base.specs.Addresses.{Address}
 use Rattle.bgp_core.specs.Solutions.{Places}
-use Rattle.join_core.specs.Rounds.{addresses_in}
-use Rattle.join_core.specs.Worlds.{World}
+use Rattle.request_plan.specs.Rounds.{addresses_in}
+use Rattle.request_plan.specs.Worlds.{World}
 use Rattle.join_core.specs.Nodes.{NodeData, future, left}
 use Rattle.join_core.specs.Joins.{nodes}
 use Rattle.join_core.specs.JoinAccounts.{is_over}
-use Rattle.join_core.specs.Evaluations.{Account, Terms, Sizes, nothing}
+use Rattle.request_plan.specs.Evaluations.{Account, Terms, Sizes, nothing}
 use Rattle.plan_laws.specs.JointWorlds.{joint_world}
 use Rattle.joint_pages.specs.Gatherings.{GatheringData}
 use Rattle.federation.specs.Federations.{FederationData, SuitsAll, KeepsAll, KeepsSmall, account_of, standing_of, all_wanted, all_tickets, all_outs}

@@ -3,11 +3,11 @@ use Rattle.std.specs.Prelude.{ℕ, ◌≡◌, ◌*◌, ◌<◌, ◌≤◌, ◌==
 use Rattle.std.specs.List.{All, Contains, flat_map, count_by}
 use Rattle.tpf_base.specs.Addresses.{Address}
 use Rattle.fragment_page.specs.declared.page.Page.{Page}
-use Rattle.join_core.specs.Rounds.{RoundData, addresses_in}
-use Rattle.join_core.specs.Worlds.{World}
+use Rattle.request_plan.specs.Rounds.{RoundData, addresses_in}
+use Rattle.request_plan.specs.Worlds.{World}
 use Rattle.join_core.specs.Joins.{JoinData, owed, left_over, out, tickets_out, Suits}
 use Rattle.join_core.specs.JoinAccounts.{is_over}
-use Rattle.join_core.specs.Evaluations.{Account, Standing, Terms, Sizes, HasHome, NextAtHome}
+use Rattle.request_plan.specs.Evaluations.{Account, Standing, Terms, Sizes, HasHome, NextAtHome}
 use Rattle.join_core.specs.Sound.{KeepsTo, IsKeptSmall}
 use Rattle.plan_laws.specs.JointWorlds.{joint_world}
 use Rattle.joint_pages.specs.Gatherings.{GatheringData, round_of, tickets_of, outs_of, is_whole}

@@ -4,16 +4,16 @@ use Rattle.std.specs.List.{All}
 use Rattle.tpf_base.specs.Addresses.{Address}
 use Rattle.fragment_page.specs.declared.page.Page.{Page}
 use Rattle.bgp_core.specs.Solutions.{Places}
-use Rattle.join_core.specs.declared.evaluation.Ask.{Ask}
-use Rattle.join_core.specs.declared.evaluation.Answered.{Answered}
-use Rattle.join_core.specs.declared.evaluation.Answered.TheVariants.{Taken, Stranger}
-use Rattle.join_core.specs.declared.round.RoundAsk.{RoundAsk}
-use Rattle.join_core.specs.declared.joint_page.JointPage.{JointPage}
-use Rattle.join_core.specs.Worlds.{World}
-use Rattle.join_core.specs.Rounds.{RoundAtHome, NextRoundAtHome}
+use Rattle.request_plan.specs.declared.evaluation.Ask.{Ask}
+use Rattle.request_plan.specs.declared.evaluation.Answered.{Answered}
+use Rattle.request_plan.specs.declared.evaluation.Answered.TheVariants.{Taken, Stranger}
+use Rattle.request_plan.specs.declared.round.RoundAsk.{RoundAsk}
+use Rattle.request_plan.specs.declared.joint_page.JointPage.{JointPage}
+use Rattle.request_plan.specs.Worlds.{World}
+use Rattle.request_plan.specs.Rounds.{RoundAtHome, NextRoundAtHome}
 use Rattle.join_core.specs.Joins.{JoinData, Suits, HandsOut, IsTrueFor, AsksAt, GivesRow, tickets_out}
 use Rattle.join_core.specs.Outcomes.{NewTicket, NothingToAsk, AnswerDone, AnswerNumbered, WaitsMore}
-use Rattle.join_core.specs.Evaluations.{Terms}
+use Rattle.request_plan.specs.Evaluations.{Terms}
 use Rattle.join_core.specs.Sound.{KeepsTo, IsKeptSmall}
 use Rattle.joint_pages.specs.Parts.{pages_in}
 use Rattle.joint_pages.specs.Gatherings.{GatheringData, HandsPart, begun, is_whole}

@@ -1,6 +1,6 @@
 // A federation is an evaluation.
 ghost use Rattle.std.specs.Prelude.{List};
-ghost use Rattle.join_core.specs.Worlds.{World};
+ghost use Rattle.request_plan.specs.Worlds.{World};
 ghost use Rattle.joint_pages.specs.Truths.{IsPageOfAll};
 ghost use Rattle.federation.specs.Beginnings.{FitByRows, joint_rows, joint_plan, none_reported};
 ghost use Rattle.federation.specs.Federations.{SuitsAll, KeepsAll, KeepsSmall, account_of, standing_of};
@@ -9,7 +9,7 @@ ghost use Rattle.federation.specs.FederationLaws.{done-owes-nothing, done-is-qui
 use crate::evaluation::Federation;
 use bgp_core::{Query, Row};
 use fragment_page::Page;
-use join_core::{Answered, Ask, BlockSize, Evaluates, FormList};
+use request_plan::{Answered, Ask, BlockSize, Evaluates, FormList};
 use std::alloc::Global;
 use tpf_base::OutOfMemory;
 

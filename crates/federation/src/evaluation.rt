@@ -1,9 +1,9 @@
 // One query over several servers.
 ghost use Rattle.std.specs.Prelude.{ℕ, ◌≡◌, ◌+◌, ◌-◌, ◌*◌, ◌<◌, ◌≤◌, ◌^◌, List, [], ◌∷◌, length, true, false, IfOk};
 ghost use Rattle.tpf_base.specs.Addresses.{Address};
-ghost use Rattle.join_core.specs.Worlds.{World};
-ghost use Rattle.join_core.specs.Rounds.{FormsAtHome};
-ghost use Rattle.join_core.specs.Beginnings.{BeginsWith, sizes_of, terms_of};
+ghost use Rattle.request_plan.specs.Worlds.{World};
+ghost use Rattle.request_plan.specs.Rounds.{FormsAtHome};
+ghost use Rattle.request_plan.specs.Beginnings.{BeginsWith, sizes_of, terms_of};
 ghost use Rattle.federation.specs.Beginnings.{FitWorlds, joint_rows, joint_plan, most_pages};
 ghost use Rattle.federation.specs.Federations.{SuitsAll, KeepsAll, KeepsSmall, account_of, standing_of};
 ghost use Rattle.federation.specs.Steps.{IsFull, HasRoom, BeginsNext, AskedPart, AskedRound, Asks, JoinsRound, Answers, GivesOne};
@@ -11,8 +11,9 @@ ghost use Rattle.federation.specs.Steps.{IsFull, HasRoom, BeginsNext, AskedPart,
 use crate::rounds::{find, hand_out, take};
 use bgp_core::{Query, Row};
 use fragment_page::Page;
-use join_core::{Answered, Ask, FormList, RoundJoin};
+use join_core::RoundJoin;
 use joint_pages::Gathering;
+use request_plan::{Answered, Ask, FormList};
 use std::alloc::Global;
 use std::marker::Model;
 use template_fill::WebAddress;

@@ -4,9 +4,9 @@ ghost use Rattle.std.specs.Prelude.{◌≡◌, ◌<◌, ◌+◌, ◌*◌, ◌≤
 use crate::servers::{form_of, page_at};
 use bgp_core::{Query, Row};
 use federation::Federation;
-use join_core::{Answered, Ask, BlockSize, Evaluates, FormList};
 use nquads_text::canonical;
 use pattern_parser::parse;
+use request_plan::{Answered, Ask, BlockSize, Evaluates, FormList};
 use std::alloc::Global;
 use std::test::Fail;
 use template_fill::{Form, WebAddress};

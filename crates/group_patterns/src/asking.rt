@@ -11,7 +11,7 @@ use crate::fault::of_block;
 use bgp_core::{Pattern, Row};
 use group_query::Step;
 use group_rows::Rows;
-use join_core::BlockSize;
+use request_plan::BlockSize;
 use std::alloc::Global;
 use std::collections::VecDeque;
 use std::marker::Model;

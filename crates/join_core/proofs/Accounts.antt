@@ -4,11 +4,12 @@ use Rattle.std.specs.List.{flat_map}
 use Rattle.std.specs.List.Sorted.{IsPermutation}
 use Rattle.std.proofs.lemmas.List.Sorted.{IsPermutation-trans, IsPermutation-cons}
 use Rattle.list_laws.proofs.Orders.{same}
-use Rattle.join_core.specs.Rounds.{RoundData}
+use Rattle.request_plan.specs.Rounds.{RoundData}
 use Rattle.bgp_core.specs.declared.pattern.Pattern.{Pattern}
 use Rattle.bgp_core.specs.Solutions.{Places, solutions}
-use Rattle.join_core.specs.Worlds.{World}
-use Rattle.join_core.specs.Nodes.{NodeData, round_plan, left, future}
+use Rattle.request_plan.specs.Worlds.{World}
+use Rattle.request_plan.specs.Plans.{round_plan}
+use Rattle.join_core.specs.Nodes.{NodeData, left, future}
 use Rattle.join_core.specs.Joins.{JoinData, nodes, owed, left_over, Begins}
 use Rattle.join_core.specs.Runs.{Event, RunsTo, given, asks, IsDone}
 use Rattle.join_core.specs.Runs.Event.{Asked, Came, Quiet, Gave}

@@ -4,14 +4,15 @@ use Rattle.std.specs.List.{remove}
 use Rattle.rdf_terms.specs.declared.term.Triple.{Triple}
 use Rattle.bgp_core.specs.declared.pattern.Pattern.{Pattern}
 use Rattle.bgp_core.specs.Solutions.{Places}
-use Rattle.join_core.specs.declared.joint_page.JointPage.{JointPage}
-use Rattle.join_core.specs.Blocks.{blocks, forms_cut}
-use Rattle.join_core.specs.Worlds.{World, HasForms, cut_of}
-use Rattle.join_core.specs.Nodes.{Stage, NodeData, node, found, askable_rows, fresh, nodes_in, least, count_of}
+use Rattle.request_plan.specs.declared.joint_page.JointPage.{JointPage}
+use Rattle.request_plan.specs.Blocks.{blocks, forms_cut}
+use Rattle.request_plan.specs.Worlds.{World, HasForms, cut_of}
+use Rattle.request_plan.specs.Plans.{found, askable_rows, least}
+use Rattle.join_core.specs.Nodes.{Stage, NodeData, node, fresh, nodes_in, count_of}
 use Rattle.join_core.specs.Nodes.Stage.{Asking, Walking}
 use Rattle.join_core.specs.Events.{opened_by, chosen_page, MadeOf, IsChosen}
 use Rattle.join_core.specs.Joins.{JoinData, cut_in}
-use Rattle.join_core.proofs.Alike.{cuts-alike}
+use Rattle.request_plan.proofs.Alike.{cuts-alike}
 use Rattle.join_core.proofs.Over.{rows-askable}
 
 module _ (w : World) (j : JoinData) (forms : HasForms w j.forms) (block : w.block ≡ j.block) where

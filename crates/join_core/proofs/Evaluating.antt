@@ -10,28 +10,29 @@ use Rattle.std.proofs.lemmas.List.Sorted.{IsPermutation-sym, Contains-permutatio
 use Rattle.list_laws.proofs.Members.{at_head, in_flat_map}
 use Rattle.list_laws.proofs.Orders.{flat_map_IsPermutation}
 use Rattle.tpf_base.specs.Addresses.{Address}
-use Rattle.join_core.specs.declared.evaluation.Ask.{Ask}
-use Rattle.join_core.specs.declared.evaluation.Answered.{Answered}
-use Rattle.join_core.specs.declared.evaluation.Answered.TheVariants.{Taken, Stranger}
-use Rattle.join_core.specs.Rounds.{RoundData, round_of_one, addresses_in, NextRoundAtHome}
-use Rattle.join_core.specs.Worlds.{World, IsRoundPageAt, IsOneServer, IsPageAt}
+use Rattle.request_plan.specs.declared.evaluation.Ask.{Ask}
+use Rattle.request_plan.specs.declared.evaluation.Answered.{Answered}
+use Rattle.request_plan.specs.declared.evaluation.Answered.TheVariants.{Taken, Stranger}
+use Rattle.request_plan.specs.Rounds.{RoundData, round_of_one, addresses_in, NextRoundAtHome}
+use Rattle.request_plan.specs.Worlds.{World, IsRoundPageAt, IsOneServer, IsPageAt}
 use Rattle.join_core.specs.Ones.{SuitsOne, AsksFirstAt, AskStartsOne, pairs_in, round_ask}
-use Rattle.join_core.specs.JointPages.{joint_page}
+use Rattle.request_plan.specs.JointPages.{joint_page}
 use Rattle.fragment_page.specs.declared.page.Page.{Page}
 use Rattle.join_core.proofs.Rounded.{out-is-round, one-address-of}
 use Rattle.bgp_core.specs.declared.pattern.Pattern.{Pattern}
 use Rattle.bgp_core.specs.Solutions.{Places, solutions}
 use Rattle.template_fill.specs.declared.form.Form.{Form}
-use Rattle.join_core.specs.declared.joint_page.JointPage.{JointPage}
+use Rattle.request_plan.specs.declared.joint_page.JointPage.{JointPage}
 use Rattle.join_core.specs.declared.first.First.TheVariants.{Got}
-use Rattle.join_core.specs.Nodes.{NodeData, round_plan, plan}
-use Rattle.join_core.specs.Beginnings.{BeginsWith}
+use Rattle.request_plan.specs.Plans.{round_plan, plan}
+use Rattle.join_core.specs.Nodes.{NodeData}
+use Rattle.request_plan.specs.Beginnings.{BeginsWith}
 use Rattle.join_core.specs.Events.{with_first_at}
 use Rattle.join_core.specs.Sound.{IsKeptSmall, KeepsSizes}
 use Rattle.join_core.specs.Joins.{JoinData, nodes, left_over, out, Begins, IsTrueFor, HandsOut, AsksAt, TakesFirst, TakesNext, TakesFirstAt, with_longest}
 use Rattle.join_core.specs.Outcomes.{AskDone, AskNumbered, AnswerDone, AnswerTakes, GivesWaiting}
 use Rattle.join_core.specs.JoinAccounts.{is_over, account_of, standing_of}
-use Rattle.join_core.specs.Evaluations.{HasHome, NextAtHome, Sizes, OwesAfterAsk, OwesAfterAnswer, StandsAfterAsk}
+use Rattle.request_plan.specs.Evaluations.{HasHome, NextAtHome, Sizes, OwesAfterAsk, OwesAfterAnswer, StandsAfterAsk}
 
 -- ---- authorities
 

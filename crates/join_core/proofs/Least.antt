@@ -3,7 +3,8 @@ use Rattle.std.proofs.Common.{ℕ, suc, ◌≡◌, ◌+◌, ◌-◌, ◌≤◌, 
 use Rattle.std.specs.List.{list_all}
 use Rattle.std.proofs.lemmas.List.{take_rest}
 use Rattle.join_core.specs.declared.first.First.{First}
-use Rattle.join_core.specs.Nodes.{least, count_of}
+use Rattle.request_plan.specs.Plans.{least}
+use Rattle.join_core.specs.Nodes.{count_of}
 
 pub least-here : (fs : List First) (f : First) (n : ℕ) (b : Bool) → 1 ≤ length fs → f ≡ get_or fs 0 f → n ≡ count_of f → b ≡ list_all (λ m. nat_le n m) (map count_of (drop 1 fs)) → b ≡ true → 0 ≡ least (map count_of fs)
 least-here [] f n b h e i k t = absurd (omega arith)

@@ -9,26 +9,27 @@ use Rattle.std.proofs.lemmas.Bool.Decides.{nat_tests}
 use Rattle.std.proofs.lemmas.List.{get_or_default}
 use Rattle.std.proofs.lemmas.List.Sorted.{IsPermutation-refl, IsPermutation-sym, Contains-permutation}
 use Rattle.tpf_base.specs.Addresses.{Address}
-use Rattle.join_core.specs.Rounds.{RoundData, AreFirst, IsFirstRound}
+use Rattle.request_plan.specs.Rounds.{RoundData, AreFirst, IsFirstRound}
 use Rattle.rdf_terms.specs.declared.term.Triple.{Triple}
 use Rattle.rdf_terms.specs.Selections.{Selection}
 use Rattle.bgp_core.specs.declared.pattern.Pattern.{Pattern}
 use Rattle.bgp_core.specs.Solutions.{Places}
 use Rattle.template_fill.specs.declared.form.Form.{Form}
 use Rattle.template_fill.specs.WebAddress.{OneAddress}
-use Rattle.join_core.specs.declared.joint_page.JointPage.{JointPage}
+use Rattle.request_plan.specs.declared.joint_page.JointPage.{JointPage}
 use Rattle.join_core.specs.declared.first.First.{First}
 use Rattle.join_core.specs.declared.first.First.TheVariants.{Out, Got}
 use Rattle.join_core.specs.declared.node.Waits.{Waits}
 use Rattle.join_core.specs.declared.node.Waits.TheVariants.{First as ForFirst, Next as ForNext}
-use Rattle.join_core.specs.Blocks.{selection_for}
-use Rattle.join_core.specs.Worlds.{World, IsWorld, HasForms, cut_of, IsPageAfter, IsRoundPageAt}
-use Rattle.join_core.specs.Nodes.{Stage, NodeData, node, Holds, FirstsHold, opened, walk_on, put_out, least, counts, is_got, count_of}
+use Rattle.request_plan.specs.Blocks.{selection_for}
+use Rattle.request_plan.specs.Worlds.{World, IsWorld, HasForms, cut_of, IsPageAfter, IsRoundPageAt}
+use Rattle.request_plan.specs.Plans.{least, counts}
+use Rattle.join_core.specs.Nodes.{Stage, NodeData, node, Holds, FirstsHold, opened, walk_on, put_out, is_got, count_of}
 use Rattle.join_core.specs.Nodes.Stage.{Asking, Walking}
 use Rattle.join_core.specs.Events.{CanAsk, CanAskStage, asked, IsNextRound, IsNextRoundOf, first_waiting, waits_for, with_first_at, is_full, one_more, next_walk, opened_by, out_by, after_by, MadeOf, chosen_page, chosen_page_by, IsChosen, IsFirstOf, made_of}
 use Rattle.join_core.specs.Joins.{outs, first_outs, tickets_of, first_tickets, Turn}
-use Rattle.join_core.proofs.Valid.{askable-all-at, pattern-at}
-use Rattle.join_core.proofs.Asked.{selection-askable}
+use Rattle.request_plan.proofs.Valid.{askable-all-at, pattern-at}
+use Rattle.request_plan.proofs.Asked.{selection-askable}
 use Rattle.join_core.proofs.Over.{least-counts}
 use Rattle.join_core.proofs.Pages.{counts-told}
 use Rattle.join_core.proofs.Turns.{first-ask-turn, next-ask-turn, walk-turn, held-turn, asked-sound, choice-turn}

@@ -9,12 +9,13 @@ use Rattle.rdf_terms.specs.declared.term.Triple.{Triple}
 use Rattle.bgp_core.specs.declared.pattern.Pattern.{Pattern}
 use Rattle.bgp_core.specs.Solutions.{Places}
 use Rattle.bgp_core.proofs.Patterns.{flat_map-same}
-use Rattle.join_core.specs.Blocks.{Cut, blocks, block_length, selection_for}
-use Rattle.join_core.specs.Worlds.{World, IsWorld, cut_of, numbers}
-use Rattle.join_core.specs.Nodes.{found, solutions_under, future, left, all_askable, askable_rows, Plans, page_blocks, page_plans, plans_over, round_plan, plan_for, asking_plan, chosen_plan, least, counts, fresh, rows_out, nodes_in, put_out, opened, rounds_after, first_rounds}
+use Rattle.request_plan.specs.Blocks.{Cut, blocks, block_length, selection_for}
+use Rattle.request_plan.specs.Worlds.{World, IsWorld, cut_of, numbers}
+use Rattle.request_plan.specs.Plans.{found, solutions_under, all_askable, askable_rows, Plans, page_blocks, page_plans, plans_over, round_plan, plan_for, asking_plan, chosen_plan, least, counts, rounds_after, first_rounds}
+use Rattle.join_core.specs.Nodes.{future, left, fresh, rows_out, nodes_in, put_out, opened}
 use Rattle.join_core.proofs.Lists.{all-parts, both-all}
-use Rattle.join_core.proofs.Cuts.{are-cut}
-use Rattle.join_core.proofs.Under.{solutions-split}
+use Rattle.request_plan.proofs.Cuts.{are-cut}
+use Rattle.request_plan.proofs.Under.{solutions-split}
 
 -- ---- rows
 

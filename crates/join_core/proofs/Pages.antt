@@ -8,34 +8,24 @@ use Rattle.std.proofs.lemmas.List.Sorted.{IsPermutation-trans}
 use Rattle.std.proofs.lemmas.Bool.{cases_lt}
 use Rattle.std.proofs.lemmas.Bool.Decides.{nat_tests}
 use Rattle.list_laws.proofs.Orders.{same, front as turned}
-use Rattle.list_laws.proofs.Tests.{all_numbers}
 use borrow.Author.Tests.{ltb-true}
-use Rattle.join_core.specs.Rounds.{RoundData}
+use Rattle.request_plan.specs.Rounds.{RoundData}
 use Rattle.rdf_terms.specs.declared.term.Triple.{Triple}
 use Rattle.rdf_terms.specs.Selections.{Selection}
 use Rattle.bgp_core.specs.declared.pattern.Pattern.{Pattern}
 use Rattle.bgp_core.specs.Solutions.{Places, extension, rows_from, solutions}
-use Rattle.join_core.specs.declared.joint_page.JointPage.{JointPage}
+use Rattle.request_plan.specs.declared.joint_page.JointPage.{JointPage}
 use Rattle.join_core.specs.declared.first.First.{First}
 use Rattle.join_core.specs.declared.first.First.TheVariants.{Out, Got}
-use Rattle.join_core.specs.Blocks.{Cut, selection_for}
-use Rattle.join_core.specs.Worlds.{World, IsWorld, numbers, items_after, cut_of, IsPageAfter}
-use Rattle.join_core.specs.Nodes.{found, solutions_under, future, left, future_of, left_of, Plans, page_plans, plans_over, round_plan, put_out, opened, rounds_after, asking_plan, chosen_plan, first_rounds, least, counts, WalkHolds, GoesOn, FirstsHold, is_got, count_of}
+use Rattle.request_plan.specs.Blocks.{Cut, selection_for}
+use Rattle.request_plan.specs.Worlds.{World, IsWorld, numbers, items_after, cut_of, IsPageAfter}
+use Rattle.request_plan.specs.Plans.{found, solutions_under, Plans, page_plans, plans_over, round_plan, rounds_after, asking_plan, chosen_plan, first_rounds, least, counts}
+use Rattle.join_core.specs.Nodes.{future, left, future_of, left_of, put_out, opened, WalkHolds, GoesOn, FirstsHold, is_got, count_of}
 use Rattle.join_core.specs.Nodes.Stage.{Asking, Walking}
 use Rattle.join_core.proofs.Lists.{front}
 use Rattle.join_core.proofs.Over.{rows-split, plans-split, least-counts}
-use Rattle.join_core.proofs.Under.{any-first}
-
-one-more : (n k : ℕ) → k < n → n - k ≡ suc (n - suc k)
-one-more n k h = omega (arith, h)
-
--- what stands on all pages
-pub items-first : (w : World) (s : Selection) → items_after w s 0 ≡ flat_map (w.items s) (numbers 0 (w.last s))
-items-first w s = ap (λ n. flat_map (w.items s) (numbers 0 n)) (all_numbers (w.last s))
-
--- what stands on the pages from one on is what stands on it, and on those behind it
-pub items-more : (w : World) (s : Selection) (k : ℕ) → k < w.last s → items_after w s k ≡ w.items s k ++ items_after w s (suc k)
-items-more w s k h = ap (λ n. flat_map (w.items s) (numbers k n)) (one-more (w.last s) k h)
+use Rattle.request_plan.proofs.Pages.{one-more, items-first, items-more, after_last}
+use Rattle.request_plan.proofs.Under.{any-first}
 
 -- what holds of all that stands on pages holds of what stands on one of them
 part-all : {X : Type 0} (P : X → Type 0) (f : ℕ → List X) (n m k : ℕ) → All P (flat_map f (numbers n m)) → n ≤ k → k < n + m → All P (f k)
@@ -103,11 +93,6 @@ next-left w p others rows k ticket next h =
     ap (λ n. rounds_after w s n ++ rest) zero ∙ ap (λ l. l ++ rest) (pages-more w s k h.more) ∙ ap (λ a. a ∷ (rounds_after w s (suc k) ++ rest)) (sym h.next) ∙ ap (λ n. next ∷ (rounds_after w s n ++ rest)) one
 
 -- ---- the end of a walk
-
-pub after_last : (w : World) (s : Selection) (k : ℕ) → w.last s ≤ k → items_after w s k ≡ []
-after_last w s k h =
-    let none : w.last s - k ≡ 0 = omega (arith, h) in
-    ap (λ n. flat_map (w.items s) (numbers k n)) none
 
 pub end-owed : (w : World) (p : Pattern) (others : List Pattern) (rows : List Places) (k : ℕ) (next : RoundData) (out : Option ℕ) → w.last (selection_for p rows) ≤ k → future_of w rows others (Walking p k next out) ≡ []
 end-owed w p others rows k next out h = ap (λ l. solutions_under w others (found p rows l)) (after_last w (selection_for p rows) k h)

@@ -9,12 +9,13 @@ use Rattle.rdf_terms.specs.Selections.{Selection}
 use Rattle.tpf_base.specs.Addresses.{Address}
 use Rattle.bgp_core.specs.declared.pattern.Pattern.{Pattern}
 use Rattle.bgp_core.specs.Solutions.{Places}
-use Rattle.join_core.specs.Rounds.{RoundData, round_of_one}
-use Rattle.join_core.specs.Blocks.{selection_for}
-use Rattle.join_core.specs.Worlds.{World, IsOneServer, numbers, cut_of}
+use Rattle.request_plan.specs.Rounds.{RoundData, round_of_one}
+use Rattle.request_plan.specs.Blocks.{selection_for}
+use Rattle.request_plan.specs.Worlds.{World, IsOneServer, numbers, cut_of}
 use Rattle.join_core.specs.declared.first.First.{First}
 use Rattle.join_core.specs.declared.first.First.TheVariants.{Out, Got}
-use Rattle.join_core.specs.Nodes.{Holds, Stage, NodeData, node, rounds_after, first_rounds, askable_rows, least, counts, Plans, page_blocks, page_plans, plans_over, chosen_plan, asking_plan, plan_for, round_plan, taken, left_of, left}
+use Rattle.request_plan.specs.Plans.{rounds_after, first_rounds, askable_rows, least, counts, Plans, page_blocks, page_plans, plans_over, chosen_plan, asking_plan, plan_for, round_plan}
+use Rattle.join_core.specs.Nodes.{Holds, Stage, NodeData, node, taken, left_of, left}
 use Rattle.join_core.specs.Nodes.Stage.{Asking, Walking}
 use Rattle.join_core.specs.Joins.{JoinData, nodes, left_over, first_outs, outs, out, Suits}
 

@@ -7,7 +7,7 @@ use Rattle.std.proofs.lemmas.List.Elements.{All-nil, All-cons, All-append, All-f
 use Rattle.std.proofs.lemmas.List.Sorted.{IsPermutation-trans, All-permutation}
 use Rattle.list_laws.proofs.Orders.{same}
 use Rattle.list_laws.proofs.Each.{every_at}
-use Rattle.join_core.specs.Rounds.{RoundData}
+use Rattle.request_plan.specs.Rounds.{RoundData}
 use Rattle.rdf_terms.specs.declared.term.Triple.{Triple}
 use Rattle.rdf_terms.specs.Slots.{matches}
 use Rattle.rdf_terms.specs.Valid.{IsValidTriple}
@@ -15,18 +15,19 @@ use Rattle.rdf_terms.specs.Selections.{Selection, IsValidSelection}
 use Rattle.bgp_core.specs.declared.pattern.Pattern.{Pattern}
 use Rattle.bgp_core.specs.Solutions.{Places}
 use Rattle.bgp_core.specs.Queries.{IsValidPattern}
-use Rattle.join_core.specs.declared.joint_page.JointPage.{JointPage}
+use Rattle.request_plan.specs.declared.joint_page.JointPage.{JointPage}
 use Rattle.join_core.specs.declared.first.First.{First}
 use Rattle.join_core.specs.declared.first.First.TheVariants.{Out, Got}
-use Rattle.join_core.specs.Blocks.{blocks, selection_for, is_askable}
-use Rattle.join_core.specs.Worlds.{World, IsWorld, cut_of, IsPageAfter}
-use Rattle.join_core.specs.Nodes.{NodeData, node, found, future, left, future_of, left_of, Holds, IsValidRow, GoesOn, askable_rows, walk_on, put_out, opened, counts, least, fresh, nodes_in, asking_plan, round_plan}
+use Rattle.request_plan.specs.Blocks.{blocks, selection_for, is_askable}
+use Rattle.request_plan.specs.Worlds.{World, IsWorld, cut_of, IsPageAfter}
+use Rattle.request_plan.specs.Plans.{found, IsValidRow, askable_rows, counts, least, asking_plan, round_plan}
+use Rattle.join_core.specs.Nodes.{NodeData, node, future, left, future_of, left_of, Holds, GoesOn, walk_on, put_out, opened, fresh, nodes_in}
 use Rattle.join_core.specs.Nodes.Stage.{Asking, Walking}
 use Rattle.join_core.specs.Joins.{Turn}
 use Rattle.join_core.specs.Events.{made_of}
-use Rattle.join_core.proofs.Valid.{found-valid, askable-all-at, every-remove}
-use Rattle.join_core.proofs.Cuts.{are-cut}
-use Rattle.join_core.proofs.Asked.{selection-askable, selection-valid}
+use Rattle.request_plan.proofs.Valid.{found-valid, askable-all-at, every-remove}
+use Rattle.request_plan.proofs.Cuts.{are-cut}
+use Rattle.request_plan.proofs.Asked.{selection-askable, selection-valid}
 use Rattle.join_core.proofs.Lists.{both-all}
 use Rattle.join_core.proofs.Over.{IsAskedFor, blocks-asked, blocks-have}
 use Rattle.join_core.proofs.Pages.{items-all, page-owed, page-left, first-left, next-left, end-owed, end-left, chosen-owed, chosen-left, page-goes-on, firsts-push, firsts-set}

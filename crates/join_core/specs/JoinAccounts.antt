@@ -1,10 +1,10 @@
 -- What a join owes and shows as an evaluation.
 use Rattle.std.specs.Prelude.{◌==◌, ◌&&◌, Bool, length}
-use Rattle.join_core.specs.Rounds.{addresses_in}
-use Rattle.join_core.specs.Worlds.{World}
+use Rattle.request_plan.specs.Rounds.{addresses_in}
+use Rattle.request_plan.specs.Worlds.{World}
 use Rattle.join_core.specs.Joins.{JoinData, nodes, owed, left_over, out, tickets_out}
 use Rattle.join_core.specs.Ones.{pairs_in}
-use Rattle.join_core.specs.Evaluations.{Account, Standing}
+use Rattle.request_plan.specs.Evaluations.{Account, Standing}
 
 abbrev pub account_of : World → JoinData → Account
 account_of w j = record { owed = owed w j; left = addresses_in (left_over w j); out = pairs_in (out w j) }

@@ -15,13 +15,14 @@ use Rattle.bgp_core.specs.declared.pattern.Pattern.{Pattern}
 use Rattle.bgp_core.specs.Solutions.{Places}
 use Rattle.join_core.specs.declared.first.First.{First}
 use Rattle.join_core.specs.declared.first.First.TheVariants.{Out, Got}
-use Rattle.join_core.specs.Rounds.{RoundData, addresses_in}
-use Rattle.join_core.specs.Worlds.{World}
-use Rattle.join_core.specs.Nodes.{Stage, NodeData, node, future, left, round_plan, plan}
+use Rattle.request_plan.specs.Rounds.{RoundData, addresses_in}
+use Rattle.request_plan.specs.Worlds.{World}
+use Rattle.request_plan.specs.Plans.{round_plan, plan}
+use Rattle.join_core.specs.Nodes.{Stage, NodeData, node, future, left}
 use Rattle.join_core.specs.Nodes.Stage.{Asking, Walking}
 use Rattle.join_core.specs.Events.{works}
 use Rattle.join_core.specs.Joins.{JoinData, nodes, outs, left_over, first_tickets, tickets_of, tickets_out, Begins}
-use Rattle.join_core.specs.Evaluations.{Account, Terms, Sizes, nothing}
+use Rattle.request_plan.specs.Evaluations.{Account, Terms, Sizes, nothing}
 use Rattle.join_core.specs.Sound.{KeepsNode, KeepsTo, unmatched, IsOfDepth, IsKeptSmall, KeepsSizes}
 use Rattle.join_core.specs.Ones.{SuitsOne, pairs_in}
 use Rattle.join_core.specs.JoinAccounts.{account_of, standing_of, is_over}

@@ -2,17 +2,18 @@
 use Rattle.std.specs.Prelude.{ℕ, suc, ◌≡◌, ◌+◌, ◌<◌, ◌≤◌, ◌*◌, Bool, false, List, [], ◌∷◌, ◌++◌, length, Option, Some, None, slice_index_or, slice_set, nat_lt, if◌then◌else◌, take, true, ◌⊎◌}
 use Rattle.std.specs.List.{flat_map, All, count_by, remove, Contains}
 use Rattle.std.specs.List.Sorted.{IsPermutation}
-use Rattle.join_core.specs.Rounds.{RoundData}
+use Rattle.request_plan.specs.Rounds.{RoundData}
 use Rattle.bgp_core.specs.declared.pattern.Pattern.{Pattern}
 use Rattle.bgp_core.specs.Solutions.{Places, solutions}
 use Rattle.template_fill.specs.declared.form.Form.{Form}
-use Rattle.join_core.specs.declared.joint_page.JointPage.{JointPage}
+use Rattle.request_plan.specs.declared.joint_page.JointPage.{JointPage}
 use Rattle.join_core.specs.declared.first.First.{First}
 use Rattle.join_core.specs.declared.first.First.TheVariants.{Out, Got}
 use Rattle.join_core.specs.declared.node.Waits.TheVariants.{First as ForFirst, Next as ForNext}
-use Rattle.join_core.specs.Blocks.{Cut, forms_cut, selection_for}
-use Rattle.join_core.specs.Worlds.{World, IsWorld, HasForms, IsRoundPageAt}
-use Rattle.join_core.specs.Nodes.{Stage, NodeData, future, left, round_plan, Holds, nodes_in, rows_out}
+use Rattle.request_plan.specs.Blocks.{Cut, forms_cut, selection_for}
+use Rattle.request_plan.specs.Worlds.{World, IsWorld, HasForms, IsRoundPageAt}
+use Rattle.request_plan.specs.Plans.{round_plan}
+use Rattle.join_core.specs.Nodes.{Stage, NodeData, future, left, Holds, nodes_in, rows_out}
 use Rattle.join_core.specs.Nodes.Stage.{Asking, Walking}
 use Rattle.join_core.specs.Events.{works, is_idle, has_ask, is_full, CanAsk, asked, IsNextRound, waits_for, with_first_at, opened_by, out_by, after_by, IsChosen}
 

@@ -1,11 +1,4 @@
-pub mod Rounds
-pub mod JointPages
-pub mod Blocks
-pub mod Worlds
 pub mod Nodes
-pub mod RowPlans
-pub mod BlockLaws
-pub mod Targets
 pub mod NextPages
 pub mod Shown
 pub mod Events
@@ -14,8 +7,6 @@ pub mod Levels
 pub mod Made
 pub mod Outcomes
 pub mod Runs
-pub mod Evaluations
-pub mod Beginnings
 pub mod Sound
 pub mod Ones
 pub mod JoinAccounts

@@ -3,9 +3,9 @@ use Rattle.std.specs.Prelude.{ℕ, ◌≡◌, ◌++◌, true, List, map, option_
 use Rattle.std.specs.List.{All}
 use Rattle.bgp_core.specs.declared.pattern.Pattern.{Pattern}
 use Rattle.bgp_core.specs.Solutions.{Places}
-use Rattle.join_core.specs.declared.joint_page.JointPage.{JointPage}
+use Rattle.request_plan.specs.declared.joint_page.JointPage.{JointPage}
 use Rattle.join_core.specs.declared.making.Made.{Made}
-use Rattle.join_core.specs.Blocks.{Cut}
+use Rattle.request_plan.specs.Blocks.{Cut}
 use Rattle.join_core.specs.Nodes.{NodeData}
 use Rattle.join_core.specs.Events.{MadeOf, IsChosen, is_idle}
 use Rattle.join_core.specs.Levels.{seed_node}

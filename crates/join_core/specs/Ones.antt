@@ -3,10 +3,10 @@ use Rattle.std.specs.Prelude.{ℕ, ◌≡◌, List, ◌∷◌, Option, Some, Non
 use Rattle.std.specs.Option.{option_map}
 use Rattle.std.specs.List.{flat_map}
 use Rattle.tpf_base.specs.Addresses.{Address}
-use Rattle.join_core.specs.declared.evaluation.Ask.{Ask}
-use Rattle.join_core.specs.declared.round.RoundAsk.{RoundAsk}
-use Rattle.join_core.specs.Rounds.{RoundData, round_of_one}
-use Rattle.join_core.specs.Worlds.{World, IsOneServer}
+use Rattle.request_plan.specs.declared.evaluation.Ask.{Ask}
+use Rattle.request_plan.specs.declared.round.RoundAsk.{RoundAsk}
+use Rattle.request_plan.specs.Rounds.{RoundData, round_of_one}
+use Rattle.request_plan.specs.Worlds.{World, IsOneServer}
 use Rattle.join_core.specs.Joins.{JoinData, Suits, AsksAt}
 
 -- the world is that of one server, and the join suits it

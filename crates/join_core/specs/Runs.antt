@@ -1,11 +1,11 @@
 -- Runs of a join: lists of events.
 use Rattle.std.specs.Prelude.{ℕ, ◌≡◌, List, [], ◌∷◌, ◌++◌}
 use Rattle.std.specs.List.Sorted.{IsPermutation}
-use Rattle.join_core.specs.Rounds.{RoundData}
+use Rattle.request_plan.specs.Rounds.{RoundData}
 use Rattle.bgp_core.specs.declared.pattern.Pattern.{Pattern}
 use Rattle.bgp_core.specs.Solutions.{Places, solutions}
-use Rattle.join_core.specs.Worlds.{World}
-use Rattle.join_core.specs.Nodes.{round_plan}
+use Rattle.request_plan.specs.Worlds.{World}
+use Rattle.request_plan.specs.Plans.{round_plan}
 use Rattle.join_core.specs.Joins.{JoinData, nodes, owed, left_over, HandsOut, TakesPage, GivesRow, Begins}
 
 -- a round was handed out under a ticket, a page came for one, nothing changed (a repeated answer, or a failure), or a row was given

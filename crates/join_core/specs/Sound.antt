@@ -4,15 +4,15 @@ use Rattle.std.specs.List.{All}
 use Rattle.tpf_base.specs.Addresses.{Address}
 use Rattle.bgp_core.specs.declared.pattern.Pattern.{Pattern}
 use Rattle.template_fill.specs.declared.form.Form.{Form}
-use Rattle.join_core.specs.declared.round.RoundAsk.{RoundAsk}
+use Rattle.request_plan.specs.declared.round.RoundAsk.{RoundAsk}
 use Rattle.join_core.specs.declared.first.First.{First}
 use Rattle.join_core.specs.declared.first.First.TheVariants.{Out, Got}
 use Rattle.join_core.specs.Nodes.{Stage, NodeData, AsksRightly}
 use Rattle.join_core.specs.Nodes.Stage.{Asking, Walking}
 use Rattle.join_core.specs.Events.{is_full}
 use Rattle.join_core.specs.Joins.{JoinData, nodes, tickets_out, NoneIn, open_at, level_at, IsBounded}
-use Rattle.join_core.specs.Evaluations.{Terms, Sizes}
-use Rattle.join_core.specs.Rounds.{RoundData, ShareForms, RoundAtHome, NextRoundAtHome, FormsAtHome}
+use Rattle.request_plan.specs.Evaluations.{Terms, Sizes}
+use Rattle.request_plan.specs.Rounds.{RoundData, ShareForms, RoundAtHome, NextRoundAtHome, FormsAtHome}
 
 -- the next round of a page that is held has the authorities
 abbrev pub FirstAtHome : List Address → First → Type 0

@@ -1,16 +1,15 @@
 // A join is an evaluation.
-ghost use Rattle.join_core.specs.Worlds.{World, IsPageAt};
+ghost use Rattle.request_plan.specs.Worlds.{World, IsPageAt};
 ghost use Rattle.join_core.specs.Ones.{SuitsOne};
-ghost use Rattle.join_core.specs.Beginnings.{FitsWorld, world_rows, world_plan, world_reported};
+ghost use Rattle.request_plan.specs.Beginnings.{FitsWorld, world_rows, world_plan, world_reported};
 ghost use Rattle.join_core.specs.Sound.{KeepsTo, KeepsSizes};
 ghost use Rattle.join_core.specs.JoinAccounts.{account_of, standing_of};
 ghost use Rattle.join_core.specs.JoinLaws.{done-owes-nothing, done-is-quiet, tickets-are-below, out-is-small};
 
-use crate::evaluation::{Answered, Ask, Evaluates};
 use crate::join::Join;
-use crate::{BlockSize, FormList};
 use bgp_core::{Query, Row};
 use fragment_page::Page;
+use request_plan::{Answered, Ask, BlockSize, Evaluates, FormList};
 use std::alloc::Global;
 use tpf_base::OutOfMemory;
 

@@ -15,15 +15,10 @@
 //! ```
 #![tactic(auto)]
 
-mod binding;
-mod block;
 mod choice;
 mod evaluates;
-mod evaluation;
-mod expand;
 mod first;
 mod join;
-mod joint_page;
 pub mod laws;
 mod level;
 mod levels;
@@ -31,14 +26,8 @@ mod making;
 mod next_page;
 mod node;
 mod opening;
-mod pattern_list;
-mod round;
 mod round_join;
 mod started;
 
-pub use block::{BlockSize, LONGEST_TARGET};
-pub use evaluation::{Answered, Ask, Evaluates};
 pub use join::Join;
-pub use joint_page::JointPage;
-pub use round::{FormList, Round, RoundAsk, TripleSet};
 pub use round_join::RoundJoin;

@@ -3,26 +3,21 @@ ghost use Rattle.std.specs.Prelude.{◌≡◌, ◌<◌, length, IfOk, OnOk, OnEr
 ghost use Rattle.std.specs.List.{list_all, All, remove};
 ghost use Rattle.bgp_core.specs.declared.pattern.Pattern.{Pattern};
 ghost use Rattle.bgp_core.specs.Queries.{HasPlacesFor};
-ghost use Rattle.bgp_core.specs.Instances.{instance};
-ghost use Rattle.rdf_terms.specs.Askable.{askable};
-ghost use Rattle.join_core.specs.Blocks.{selection_for};
-ghost use Rattle.join_core.specs.Rounds.{IsFirstRound, ShareForms};
-ghost use Rattle.join_core.specs.Shown.{IsBlockFor, HavePlacesFor};
+ghost use Rattle.request_plan.specs.Blocks.{cut_by};
+ghost use Rattle.request_plan.specs.Plans.{HavePlacesFor};
+ghost use Rattle.join_core.specs.Shown.{IsBlockFor};
 ghost use Rattle.join_core.specs.Sound.{IsAskedBy};
 ghost use Rattle.join_core.specs.Nodes.{fresh, node, is_got};
 ghost use Rattle.join_core.specs.Nodes.Stage.{Walking};
 ghost use Rattle.join_core.specs.Events.{CanAsk, asked, IsNextRound, waits_for, first_waiting, with_first_at, holding, is_full, chosen_page, IsFirstOf, first_at, least_in, opened_by, out_by, after_by, has_ask, is_idle};
 ghost use Rattle.join_core.specs.Made.{AllAreIdle, IsChoiceOf, IsMadeOf, opened_nodes};
-ghost use Rattle.join_core.specs.Targets.{cut_by};
 
-use crate::block::{Cut, RowBlock, selection_of};
 use crate::choice::least_count;
 use crate::first::First;
 use crate::making::{Made, chosen_part, made_first_held, made_of, nothing};
 use crate::next_page::NextPage;
-use crate::pattern_list::PatternList;
-use crate::{FormList, JointPage, Round};
 use bgp_core::Pattern;
+use request_plan::{Cut, FormList, JointPage, PatternList, Round, RowBlock, first_round};
 use std::alloc::Global;
 use std::marker::Model;
 use std::mem;
@@ -63,7 +58,8 @@ pub(crate) struct Node {
 
 impl Model for Node {
     ghost use Rattle.join_core.specs.Nodes.{NodeData};
-    ghost use Rattle.join_core.specs.Shown.{stage_of, HavePlacesFor, IsMadeStage};
+    ghost use Rattle.request_plan.specs.Plans.{HavePlacesFor};
+    ghost use Rattle.join_core.specs.Shown.{stage_of, IsMadeStage};
 
     ghost Value = { NodeData };
 
@@ -71,24 +67,6 @@ impl Model for Node {
 
     ghost invariant = { λ n. HavePlacesFor n.rest.value n.rows
         × IsMadeStage n.rows n.rest.value (stage_of n.progress) };
-}
-
-/// The round of the first pages that a block asks of a pattern.
-fn first_round(
-    alloc: Global,
-    forms: &FormList,
-    pattern: &Pattern,
-    rows: &RowBlock,
-) -> Result<Round, OutOfMemory>
-    requires { All (λ row. askable (instance pattern.now row) ≡ true) rows.now }
-    ensures first { IfOk result (λ r.
-        IsFirstRound forms.now (selection_for pattern.now rows.now) r) }
-    ensures shared { IfOk result (λ r. ShareForms forms.now r.addresses) }
-{
-    // That there is a row: contracts see a block as a list.
-    let _first = rows.first();
-    let (slots, restricted) = selection_of(alloc, pattern, rows)?;
-    forms.first_round(alloc, &slots, restricted.as_slice())
 }
 
 /// The place of the first page that is out under a ticket.

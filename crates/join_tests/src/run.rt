@@ -3,8 +3,9 @@ ghost use Rattle.std.specs.Prelude.{◌≡◌, ◌<◌, ◌+◌, ◌*◌, ◌≤
 
 use crate::pages::{BASE, page_at, query_of, server_of};
 use bgp_core::Row;
-use join_core::{Answered, Ask, FormList, Join};
+use join_core::Join;
 use nquads_text::canonical;
+use request_plan::{Answered, Ask, FormList};
 use std::alloc::Global;
 use std::test::Fail;
 use template_fill::{Form, WebAddress};

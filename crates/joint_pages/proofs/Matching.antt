@@ -13,10 +13,10 @@ use Rattle.rdf_terms.specs.declared.term.Triple.{Triple}
 use Rattle.rdf_terms.specs.Selections.{Selection, IsValidSelection}
 use Rattle.tpf_base.specs.Addresses.{Address}
 use Rattle.fragment_page.specs.declared.page.Page.{Page}
-use Rattle.join_core.specs.Rounds.{RoundData, round_of_one}
-use Rattle.join_core.specs.Blocks.{is_askable}
-use Rattle.join_core.specs.JointPages.{joint_page}
-use Rattle.join_core.specs.Worlds.{World, IsWorld, IsOneServer, IsPageAt, IsPageAfter}
+use Rattle.request_plan.specs.Rounds.{RoundData, round_of_one}
+use Rattle.request_plan.specs.Blocks.{is_askable}
+use Rattle.request_plan.specs.JointPages.{joint_page}
+use Rattle.request_plan.specs.Worlds.{World, IsWorld, IsOneServer, IsPageAt, IsPageAfter}
 use Rattle.plan_laws.specs.JointWorlds.{joint_count, joint_last, all_items, addresses_at}
 use Rattle.joint_pages.specs.Parts.{PartData, page_of, pages_in, are_there}
 use Rattle.joint_pages.specs.Joined.{all_triples, count_of, nexts_of}

@@ -8,7 +8,7 @@ use Rattle.rdf_terms.specs.Order.{triple_order}
 use Rattle.bgp_core.specs.Solutions.{unless_before, distinct_after}
 use Rattle.tpf_base.specs.Addresses.{Address}
 use Rattle.fragment_page.specs.declared.page.Page.{Page}
-use Rattle.join_core.specs.declared.joint_page.JointPage.{JointPage}
+use Rattle.request_plan.specs.declared.joint_page.JointPage.{JointPage}
 use Rattle.joint_pages.specs.Joined.{added, all_triples, count_of, nexts_of, next_round, joined}
 use Rattle.joint_pages.specs.Joining.{JoiningData, with_page, with_pages, page_made, joining_behind}
 use Rattle.joint_pages.proofs.News.{Stands, added-append, new-one, new-append}

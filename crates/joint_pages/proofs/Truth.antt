@@ -16,10 +16,10 @@ use Rattle.rdf_terms.proofs.Selected.{ascends}
 use Rattle.bgp_core.specs.Solutions.{distinct_after}
 use Rattle.tpf_base.specs.Addresses.{Address}
 use Rattle.fragment_page.specs.declared.page.Page.{Page}
-use Rattle.join_core.specs.Rounds.{RoundData}
-use Rattle.join_core.specs.declared.joint_page.JointPage.{JointPage}
-use Rattle.join_core.specs.JointPages.{joint_page}
-use Rattle.join_core.specs.Worlds.{World, IsOneServer, IsPageAt, IsPageAfter, IsRoundPageAt}
+use Rattle.request_plan.specs.Rounds.{RoundData}
+use Rattle.request_plan.specs.declared.joint_page.JointPage.{JointPage}
+use Rattle.request_plan.specs.JointPages.{joint_page}
+use Rattle.request_plan.specs.Worlds.{World, IsOneServer, IsPageAt, IsPageAfter, IsRoundPageAt}
 use Rattle.plan_laws.specs.JointWorlds.{joint_last, all_items, taken_before, joint_items, addresses_at, joint_round, several_world}
 use Rattle.plan_laws.proofs.JointWorlds.{from-sorted, in-sorted}
 use Rattle.joint_pages.specs.Parts.{PartData, pages_in, are_there}

@@ -4,8 +4,8 @@ use Rattle.std.specs.List.{All}
 use Rattle.tpf_base.specs.Addresses.{Address}
 use Rattle.rdf_terms.specs.declared.term.Triple.{Triple}
 use Rattle.fragment_page.specs.declared.page.Page.{Page}
-use Rattle.join_core.specs.Rounds.{RoundData}
-use Rattle.join_core.specs.declared.round.RoundAsk.{RoundAsk}
+use Rattle.request_plan.specs.Rounds.{RoundData}
+use Rattle.request_plan.specs.declared.round.RoundAsk.{RoundAsk}
 use Rattle.joint_pages.specs.Parts.{PartData, Awaits, awaited, came, tickets_in, outs_in, are_there}
 
 -- The ticket of the round, the addresses that are still to be asked for, the pages that were asked for, and the triples that

@@ -7,9 +7,9 @@ use Rattle.rdf_terms.specs.Order.{triple_order}
 use Rattle.bgp_core.specs.Solutions.{distinct_after}
 use Rattle.tpf_base.specs.Addresses.{Address}
 use Rattle.fragment_page.specs.declared.page.Page.{Page}
-use Rattle.join_core.specs.JointPages.{joint_page}
-use Rattle.join_core.specs.Rounds.{RoundData}
-use Rattle.join_core.specs.declared.joint_page.JointPage.{JointPage}
+use Rattle.request_plan.specs.JointPages.{joint_page}
+use Rattle.request_plan.specs.Rounds.{RoundData}
+use Rattle.request_plan.specs.declared.joint_page.JointPage.{JointPage}
 
 -- the set with these triples put in, one after another
 abbrev pub added : List Triple → List Triple → List Triple

@@ -4,7 +4,7 @@ use Rattle.rdf_terms.specs.declared.term.Triple.{Triple}
 use Rattle.bgp_core.specs.Solutions.{distinct_after}
 use Rattle.tpf_base.specs.Addresses.{Address}
 use Rattle.fragment_page.specs.declared.page.Page.{Page}
-use Rattle.join_core.specs.declared.joint_page.JointPage.{JointPage}
+use Rattle.request_plan.specs.declared.joint_page.JointPage.{JointPage}
 use Rattle.joint_pages.specs.Joined.{added, next_round}
 
 -- the triples that came until then, those of them that are new, the sum of the counts, and the further pages

@@ -3,9 +3,9 @@ use Rattle.std.specs.Prelude.{◌<◌, ◌==◌, Bool, List, length, Option, Som
 use Rattle.std.specs.List.{All}
 use Rattle.tpf_base.specs.Addresses.{Address}
 use Rattle.fragment_page.specs.declared.page.Page.{Page}
-use Rattle.join_core.specs.Worlds.{World, IsWorld, IsOneServer, IsPageAt, IsRoundPageAt}
+use Rattle.request_plan.specs.Worlds.{World, IsWorld, IsOneServer, IsPageAt, IsRoundPageAt}
 use Rattle.plan_laws.specs.JointWorlds.{joint_world}
-use Rattle.join_core.specs.declared.joint_page.JointPage.{JointPage}
+use Rattle.request_plan.specs.declared.joint_page.JointPage.{JointPage}
 use Rattle.joint_pages.specs.Parts.{PartData}
 use Rattle.joint_pages.specs.Gatherings.{GatheringData, round_of}
 

@@ -2,8 +2,8 @@
 ghost use Rattle.std.specs.Prelude.{ℕ, ◌≡◌, ◌≢◌, ◌<◌, ◌==◌, List, [], ◌∷◌, length, slice_index_or, slice_set, IfOk, IfSome, IfNone, MatchOption, true, false};
 ghost use Rattle.std.specs.Option.{option_map};
 ghost use Rattle.std.specs.Rc.{rc_value};
-ghost use Rattle.join_core.specs.Rounds.{taken_of};
-ghost use Rattle.join_core.specs.Worlds.{World};
+ghost use Rattle.request_plan.specs.Rounds.{taken_of};
+ghost use Rattle.request_plan.specs.Worlds.{World};
 ghost use Rattle.joint_pages.specs.Parts.{PartData, came, pages_in, are_there};
 ghost use Rattle.joint_pages.specs.Gatherings.{begun, HandsNext, AwaitsAt, IsStranger, TakesPart, is_whole};
 ghost use Rattle.joint_pages.specs.Joined.{joined_as};
@@ -13,7 +13,7 @@ use crate::joining::join_parts;
 use crate::only::only_page;
 use crate::part::Part;
 use fragment_page::Page;
-use join_core::{JointPage, RoundAsk, TripleSet};
+use request_plan::{JointPage, RoundAsk, TripleSet};
 use std::alloc::Global;
 use std::collections::VecDeque;
 use std::marker::Model;
@@ -35,7 +35,7 @@ pub struct Gathering {
 impl Model for Gathering {
     ghost use Rattle.std.specs.Option.{option_map};
     ghost use Rattle.std.specs.Rc.{rc_value};
-    ghost use Rattle.join_core.specs.Rounds.{taken_of};
+    ghost use Rattle.request_plan.specs.Rounds.{taken_of};
     ghost use Rattle.joint_pages.specs.Gatherings.{GatheringData};
 
     ghost Value = { GatheringData };

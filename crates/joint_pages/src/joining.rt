@@ -7,8 +7,8 @@ ghost use Rattle.joint_pages.specs.Joining.{with_page, with_pages, joining_behin
 
 use crate::part::Part;
 use fragment_page::{Page, TripleList};
-use join_core::{JointPage, Round, TripleSet};
 use rdf_terms::Triple;
+use request_plan::{JointPage, Round, TripleSet};
 use std::alloc::Global;
 use std::marker::Model;
 use std::rc::Rc;

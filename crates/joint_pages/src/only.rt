@@ -6,7 +6,7 @@ ghost use Rattle.joint_pages.specs.Joined.{joined, joined_as};
 
 use crate::part::Part;
 use fragment_page::TripleList;
-use join_core::JointPage;
+use request_plan::JointPage;
 use std::alloc::Global;
 
 /// The joint page of no page. It takes no memory.

@@ -18,8 +18,8 @@ use Rattle.template_fill.specs.Bodies.{version_of}
 use Rattle.template_fill.specs.Answered.{PagesAreGiven, AnsweredGivePages}
 use Rattle.control_laws.specs.Law.{ControlsReadBack, PagesAreThere}
 use Rattle.bgp_core.specs.declared.pattern.Pattern.{Pattern}
-use Rattle.join_core.specs.Nodes.{plan}
-use Rattle.join_core.specs.Worlds.{World}
+use Rattle.request_plan.specs.Plans.{plan}
+use Rattle.request_plan.specs.Worlds.{World}
 use Rattle.plan_laws.specs.Fitting.{IsAskable}
 use Rattle.plan_laws.specs.JointWorlds.{joint_last, items_at, all_items, taken_before, joint_items, addresses_at, several_world, joint_world}
 use Rattle.plan_laws.specs.JointFitting.{ServerData, world_at, IsWithin, IsReadByOne}

@@ -23,9 +23,9 @@ use Rattle.rdf_terms.specs.Valid.{IsValidTriple}
 use Rattle.rdf_terms.proofs.Selected.{sorted_is, ascends, no_slots}
 use Rattle.rdf_terms.proofs.Equality.{eq_same}
 use Rattle.bgp_core.specs.Solutions.{distinct_after}
-use Rattle.join_core.specs.Worlds.{World, IsWorld, numbers, items_after}
+use Rattle.request_plan.specs.Worlds.{World, IsWorld, numbers, items_after}
 use Rattle.plan_laws.specs.JointWorlds.{WorldsAreJoined, union, joint_count, joint_last, items_at, all_items, taken_before, joint_items, holds, joint_keeps, several_world}
-use Rattle.join_core.proofs.Pages.{items-first}
+use Rattle.request_plan.proofs.Pages.{items-first}
 use Rattle.plan_laws.proofs.Servers.{Apart, AllApart, sorted-turned}
 
 -- ---- triples in their order, each once

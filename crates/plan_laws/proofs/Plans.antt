@@ -18,14 +18,14 @@ use Rattle.template_fill.specs.Authorities.{address_of_page}
 use Rattle.bgp_core.specs.declared.pattern.Pattern.{Pattern}
 use Rattle.bgp_core.specs.Solutions.{Places, extension, rows_from}
 use Rattle.bgp_core.specs.Instances.{instance}
-use Rattle.join_core.specs.declared.block.TheConstants.{LONGEST_TARGET}
-use Rattle.join_core.specs.Rounds.{RoundData, addresses_in}
-use Rattle.join_core.specs.Blocks.{selection_for, all_fit, blocks}
-use Rattle.join_core.specs.Worlds.{World, numbers, cut_of}
-use Rattle.join_core.specs.Nodes.{Plans, found, askable_rows, page_blocks, page_plans, rounds_after, first_rounds, all_askable, least, counts, plans_over, chosen_plan, asking_plan, plan_for}
-use Rattle.join_core.proofs.Cuts.{are-cut}
-use Rattle.join_core.proofs.Lengths.{first-askable, others-askable}
-use Rattle.join_core.proofs.Valid.{every-remove}
+use Rattle.request_plan.specs.declared.block.TheConstants.{LONGEST_TARGET}
+use Rattle.request_plan.specs.Rounds.{RoundData, addresses_in}
+use Rattle.request_plan.specs.Blocks.{selection_for, all_fit, blocks}
+use Rattle.request_plan.specs.Worlds.{World, numbers, cut_of}
+use Rattle.request_plan.specs.Plans.{Plans, found, askable_rows, page_blocks, page_plans, rounds_after, first_rounds, all_askable, least, counts, plans_over, chosen_plan, asking_plan, plan_for}
+use Rattle.request_plan.proofs.Cuts.{are-cut}
+use Rattle.request_plan.proofs.Lengths.{first-askable, others-askable}
+use Rattle.request_plan.proofs.Valid.{every-remove}
 use Rattle.plan_laws.specs.Servers.{asked_at, server_world}
 use Rattle.plan_laws.proofs.Slots.{Binds, HasTerms, HasParts, extended_binds}
 

@@ -41,8 +41,8 @@ use Rattle.bgp_core.specs.declared.pattern.Pattern.{Pattern}
 use Rattle.bgp_core.specs.Queries.{IsValidPart}
 use Rattle.http_ends.specs.Requests.{request_for}
 use Rattle.plan_laws.specs.Servers.{server_world}
-use Rattle.join_core.specs.Nodes.{plan}
-use Rattle.join_core.proofs.Starts.{empty-place}
+use Rattle.request_plan.specs.Plans.{plan}
+use Rattle.request_plan.proofs.Valid.{empty-place}
 use Rattle.plan_laws.specs.Fitting.{IsRead, AreServable, IsAskablePart, IsAskable, IsServable}
 use Rattle.plan_laws.proofs.Lengths.{IsShort, fragment_short, passed_short, address_short}
 use Rattle.plan_laws.proofs.Metadata.{AreFitting, HasFittingTexts, HasFittingTerms, joined, metadata_fits, data_fits}

@@ -26,11 +26,11 @@ use Rattle.bgp_core.specs.declared.pattern.Pattern.{Pattern}
 use Rattle.bgp_core.specs.Solutions.{Places}
 use Rattle.bgp_core.specs.Instances.{instance}
 use Rattle.bgp_core.specs.Queries.{IsValidPart, IsValidPattern}
-use Rattle.join_core.specs.declared.block.TheConstants.{LONGEST_TARGET}
-use Rattle.join_core.specs.Blocks.{selection_for, is_askable}
-use Rattle.join_core.specs.Nodes.{IsValidRow}
-use Rattle.join_core.specs.Worlds.{cut_of}
-use Rattle.join_core.proofs.Asked.{selection-askable, selection-valid}
+use Rattle.request_plan.specs.declared.block.TheConstants.{LONGEST_TARGET}
+use Rattle.request_plan.specs.Blocks.{selection_for, is_askable}
+use Rattle.request_plan.specs.Plans.{IsValidRow}
+use Rattle.request_plan.specs.Worlds.{cut_of}
+use Rattle.request_plan.proofs.Asked.{selection-askable, selection-valid}
 use Rattle.plan_laws.specs.Servers.{server_world}
 use Rattle.plan_laws.proofs.Lengths.{IsShortSlot, AreShort, IsShort, fragment_short, passed_short}
 use Rattle.plan_laws.proofs.Slots.{Binds, IsPart, HasParts, IsSlot, HasSlots, instance_slots}

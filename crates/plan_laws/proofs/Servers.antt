@@ -35,9 +35,9 @@ use Rattle.template_fill.specs.Metadata.{Config}
 use Rattle.template_fill.specs.Configurations.{IsValidDataSet, VersionsAreValid}
 use Rattle.template_fill.specs.Bodies.{version_of}
 use Rattle.control_laws.specs.Law.{IsServerForm, IsPageOf, IsNextOf, NothingElseIsRead}
-use Rattle.join_core.proofs.Pages.{items-first}
-use Rattle.join_core.specs.Rounds.{RoundData, round_of_one}
-use Rattle.join_core.specs.Worlds.{numbers, items_after}
+use Rattle.request_plan.proofs.Pages.{items-first}
+use Rattle.request_plan.specs.Rounds.{RoundData, round_of_one}
+use Rattle.request_plan.specs.Worlds.{numbers, items_after}
 use Rattle.plan_laws.specs.Servers.{kept_by, asked_at, server_world, ServersAreWorlds, ServersHaveForms, ServersPagesAreTrue}
 
 -- ---- a fragment holds the matching triples, each as often as they

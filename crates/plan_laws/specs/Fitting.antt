@@ -24,7 +24,7 @@ use Rattle.bgp_core.specs.declared.pattern.Part.{Part}
 use Rattle.bgp_core.specs.declared.pattern.Part.TheVariants.{Fixed, Name}
 use Rattle.bgp_core.specs.declared.pattern.Pattern.{Pattern}
 use Rattle.bgp_core.specs.Queries.{IsValidPattern}
-use Rattle.join_core.specs.Nodes.{plan}
+use Rattle.request_plan.specs.Plans.{plan}
 use Rattle.plan_laws.specs.Servers.{server_world}
 
 -- the request for the address is within the limit of heads, and is answered with the status 200 and a body that is read as a page of the address

@@ -7,8 +7,8 @@ use Rattle.rdf_terms.specs.declared.term.Triple.{Triple}
 use Rattle.template_fill.specs.Metadata.{Config}
 use Rattle.template_fill.specs.Bodies.{version_of}
 use Rattle.bgp_core.specs.declared.pattern.Pattern.{Pattern}
-use Rattle.join_core.specs.Nodes.{plan}
-use Rattle.join_core.specs.Worlds.{World}
+use Rattle.request_plan.specs.Plans.{plan}
+use Rattle.request_plan.specs.Worlds.{World}
 use Rattle.plan_laws.specs.Servers.{server_world}
 use Rattle.plan_laws.specs.JointWorlds.{joint_world}
 use Rattle.plan_laws.specs.Fitting.{IsRead, IsAskable, IsServable}

@@ -9,8 +9,8 @@ use Rattle.rdf_terms.specs.Order.{triple_order}
 use Rattle.rdf_terms.specs.Fragments.{sorted}
 use Rattle.bgp_core.specs.Solutions.{distinct_after}
 use Rattle.tpf_base.specs.Addresses.{Address}
-use Rattle.join_core.specs.Rounds.{RoundData}
-use Rattle.join_core.specs.Worlds.{World, IsWorld}
+use Rattle.request_plan.specs.Rounds.{RoundData}
+use Rattle.request_plan.specs.Worlds.{World, IsWorld}
 
 -- the union of sets of triples: each triple of one of them, once, in the order of triples (RDF 1.1 Concepts, 3.1: a graph is a set)
 unfoldable pub union : List (List Triple) → List Triple

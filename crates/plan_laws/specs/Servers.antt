@@ -14,9 +14,9 @@ use Rattle.template_fill.specs.Bodies.{version_of, page_body}
 use Rattle.fragment_page.specs.declared.page.Page.{Page}
 use Rattle.control_reader.specs.Takes.{Takes}
 use Rattle.control_laws.specs.Law.{IsServerForm, IsVersionNumber}
-use Rattle.join_core.specs.Rounds.{round_of_one}
-use Rattle.join_core.specs.Blocks.{is_askable}
-use Rattle.join_core.specs.Worlds.{World, IsWorld, HasForm, IsPageAt}
+use Rattle.request_plan.specs.Rounds.{round_of_one}
+use Rattle.request_plan.specs.Blocks.{is_askable}
+use Rattle.request_plan.specs.Worlds.{World, IsWorld, HasForm, IsPageAt}
 
 -- which triples of a fragment are given: where rows are read, all without a row, and with rows those that match one of them; where they are passed over, all
 abbrev pub kept_by : Bool → List Slots → Triple → Bool

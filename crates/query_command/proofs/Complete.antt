@@ -9,7 +9,7 @@ use Rattle.template_fill.specs.declared.limits.TheConstants.{LONGEST_START}
 use Rattle.template_fill.specs.Metadata.{Config}
 use Rattle.template_fill.specs.Answered.{AnsweredGivePages}
 use Rattle.bgp_core.specs.Queries.{IsValidPattern, QueryData}
-use Rattle.join_core.specs.Blocks.{IsBlockSize}
+use Rattle.request_plan.specs.Blocks.{IsBlockSize}
 use Rattle.plan_laws.specs.Fitting.{PlansAreRead, StartsAreRead}
 use Rattle.tpf_client.specs.declared.options.Options.{Options}
 use Rattle.tpf_client.specs.declared.fault.ClientFault.{ClientFault}

@@ -12,7 +12,7 @@ use Rattle.template_fill.specs.Bodies.{version_of}
 use Rattle.template_fill.specs.Configurations.{IsConfig, IsHistory, IsValidDataSet}
 use Rattle.template_fill.specs.Answered.{is_answered, AnsweredGivePages}
 use Rattle.bgp_core.specs.Queries.{QueryData}
-use Rattle.join_core.specs.Blocks.{IsBlockSize}
+use Rattle.request_plan.specs.Blocks.{IsBlockSize}
 use Rattle.plan_laws.specs.Fitting.{IsRead, AreServable, IsAskable, IsServable, PlansAreRead, BasesAreRead, StartsAreRead}
 use Rattle.tpf_client.specs.Offers.{Publisher, IsVersionOf, publisher, is_served, addresses_in_blocks, offer_in_blocks}
 use Rattle.plan_laws.proofs.Starts.{base_of_start, target_of_start}

@@ -2,8 +2,8 @@
 
 use crate::servers::{Given, given_at};
 use fragment_page::TripleList;
-use join_core::{JointPage, Round, TripleSet};
 use rdf_terms::Triple;
+use request_plan::{JointPage, Round, TripleSet};
 use std::alloc::Global;
 use std::rc::Rc;
 use std::test::Fail;

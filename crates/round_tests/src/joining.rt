@@ -4,9 +4,10 @@ ghost use Rattle.std.specs.Prelude.{◌≡◌, ◌<◌, ◌+◌, ◌≤◌, ◌^
 use crate::gathering::joint_page;
 use crate::servers::form_of;
 use bgp_core::{Query, Row};
-use join_core::{Answered, FormList, RoundAsk, RoundJoin};
+use join_core::RoundJoin;
 use nquads_text::canonical;
 use pattern_parser::parse;
+use request_plan::{Answered, FormList, RoundAsk};
 use std::alloc::Global;
 use std::test::Fail;
 use template_fill::Form;

@@ -7,7 +7,7 @@ use Rattle.tpf_base.specs.Addresses.{Address}
 use Rattle.bgp_core.specs.Solutions.{Places}
 use Rattle.request_pool.specs.Pools.{Ask}
 use Rattle.fragment_page.specs.declared.page.Page.{Page}
-use Rattle.join_core.specs.Evaluations.{Account, HandsOver, GivesOwed}
+use Rattle.request_plan.specs.Evaluations.{Account, HandsOver, GivesOwed}
 use Rattle.tpf_client.specs.Traffic.{PoolEvent, Asked, Came, Waited, Broke}
 use Rattle.tpf_client.specs.Causes.{Versions}
 use Rattle.tpf_client.specs.Asking.{AreWaits}

@@ -13,7 +13,7 @@ use Rattle.result_json.specs.Pieces.{PiecesMakeTheText, RowsGoOn}
 use Rattle.request_pool.specs.Pools.{Pooled}
 use Rattle.pool_laws.specs.Answers.{IsHonestOver}
 use Rattle.pool_laws.specs.Rising.{IsServedBySome}
-use Rattle.join_core.specs.Evaluations.{HasHome}
+use Rattle.request_plan.specs.Evaluations.{HasHome}
 use Rattle.tpf_client.specs.declared.options.Options.{Options}
 use Rattle.tpf_client.specs.declared.options.Report.{Report}
 use Rattle.tpf_client.specs.declared.fault.ClientFault.{ClientFault}

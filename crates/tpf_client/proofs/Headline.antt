@@ -15,8 +15,8 @@ use Rattle.template_fill.specs.Answered.{is_answered}
 use Rattle.template_fill.specs.Templates.{Template}
 use Rattle.request_pool.specs.Pools.{Pooled, Ask, empty_pool}
 use Rattle.pool_laws.specs.Answers.{IsBodyOver}
-use Rattle.join_core.specs.Blocks.{IsBlockSize}
-use Rattle.join_core.specs.Evaluations.{HasHome}
+use Rattle.request_plan.specs.Blocks.{IsBlockSize}
+use Rattle.request_plan.specs.Evaluations.{HasHome}
 use Rattle.plan_laws.specs.Servers.{server_world}
 use Rattle.tpf_client.specs.declared.options.Options.{Options}
 use Rattle.tpf_client.specs.Traffic.{PoolEvent, Came, IsLawful}

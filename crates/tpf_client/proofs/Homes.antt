@@ -8,8 +8,8 @@ use Rattle.list_laws.proofs.Members.{at_head, in_tail}
 use Rattle.tpf_base.specs.Addresses.{Address}
 use Rattle.fragment_page.specs.declared.page.Page.{Page}
 use Rattle.request_pool.specs.Pools.{Pooled, Ask, held}
-use Rattle.join_core.specs.Evaluations.{HasHome}
-use Rattle.join_core.specs.Rounds.{FormsAtHome}
+use Rattle.request_plan.specs.Evaluations.{HasHome}
+use Rattle.request_plan.specs.Rounds.{FormsAtHome}
 use Rattle.tpf_client.specs.Traffic.{PoolEvent, Asked, Came, Waited, Broke}
 use Rattle.tpf_client.specs.Starts.{start_ask, ReadsStart, ReadsStarts, AsksStarts, forms_of}
 use Rattle.tpf_client.specs.Asking.{PutsAll}

@@ -12,7 +12,7 @@ use Rattle.http_wire.specs.declared.message.Reply.{Reply}
 use Rattle.http_wire.specs.declared.message.ReplyFault.{ReplyFault}
 use Rattle.http_wire.specs.declared.message.ReplyFault.TheVariants as refusals
 use Rattle.http_ends.specs.Requests.{asks}
-use Rattle.join_core.specs.Evaluations.{HasHome}
+use Rattle.request_plan.specs.Evaluations.{HasHome}
 use Rattle.template_fill.specs.HttpAnswer.{Answer}
 use Rattle.template_fill.specs.Answers.{answer_to}
 use Rattle.fragment_page.specs.declared.page.PageFault.{PageFault}

@@ -19,7 +19,7 @@ use Rattle.request_pool.specs.Owned.{SuitsWire}
 use Rattle.pool_laws.specs.Following.{AnswersSoFar, PutsFollow, StepsFollow, FaultsFollow}
 use Rattle.pool_laws.specs.Answers.{TellsAll, IsHonestOver, IsBodyOf, IsBodyOver, Brings, RepliesAreAnswers}
 use Rattle.pool_laws.proofs.Answers.{over_any}
-use Rattle.join_core.specs.Evaluations.{HasHome}
+use Rattle.request_plan.specs.Evaluations.{HasHome}
 use Rattle.tpf_client.specs.Traffic.{PoolEvent, Asked, Came, Waited, Broke, Moves, Travels, AreDistinct, without_fault, Puts, Comes, StepWaits, StepBreaks}
 use Rattle.tpf_client.specs.Honest.{IsHonestWire}
 use Rattle.tpf_client.proofs.Came.{CameFrom}

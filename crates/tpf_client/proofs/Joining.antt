@@ -12,8 +12,8 @@ use Rattle.template_fill.specs.declared.form.Form.{Form}
 use Rattle.bgp_core.specs.Queries.{QueryData}
 use Rattle.bgp_core.specs.Solutions.{Places}
 use Rattle.request_pool.specs.Pools.{Pooled, Ask, held}
-use Rattle.join_core.specs.Evaluations.{Account, Standing, Terms, Sizes, HasHome, nothing}
-use Rattle.join_core.specs.Beginnings.{BeginsWith}
+use Rattle.request_plan.specs.Evaluations.{Account, Standing, Terms, Sizes, HasHome, nothing}
+use Rattle.request_plan.specs.Beginnings.{BeginsWith}
 use Rattle.tpf_client.specs.declared.fault.ClientFault.{ClientFault}
 use Rattle.tpf_client.specs.Traffic.{PoolEvent, is_under, AreDistinct}
 use Rattle.tpf_client.specs.Causes.{Versions}

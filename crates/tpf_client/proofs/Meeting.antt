@@ -10,7 +10,7 @@ use Rattle.std.proofs.lemmas.List.Sorted.{sum_by-IsPermutation, length_permutati
 use Rattle.list_laws.proofs.Members.{at_head, in_tail, head_or_tail, none_in, Contains-map}
 use Rattle.tpf_base.specs.Addresses.{Address}
 use Rattle.request_pool.specs.Pools.{Pooled, Ask, held}
-use Rattle.join_core.specs.Evaluations.{Account, Standing, HasHome, NumbersAsk, EndsNumber, HandsOver, EndsTicket, EndsInQuiet}
+use Rattle.request_plan.specs.Evaluations.{Account, Standing, HasHome, NumbersAsk, EndsNumber, HandsOver, EndsTicket, EndsInQuiet}
 use Rattle.tpf_client.specs.Traffic.{is_under}
 use Rattle.tpf_client.specs.Asking.{PutsOne}
 use Rattle.tpf_client.specs.Turns.{Limits, most_waiting, Meets, IsOut, is_number, is_pair, pair_of}

@@ -6,7 +6,7 @@ use Rattle.std.proofs.lemmas.List.{map-append}
 use Rattle.std.proofs.lemmas.List.Sorted.{sum_by-IsPermutation}
 use Rattle.tpf_base.specs.Addresses.{Address}
 use Rattle.tpf_base.specs.Links.{WireState}
-use Rattle.join_core.specs.Evaluations.{HasHome}
+use Rattle.request_plan.specs.Evaluations.{HasHome}
 use Rattle.bgp_core.specs.Queries.{QueryData}
 use Rattle.request_pool.specs.Faults.{kept_of}
 use Rattle.request_pool.specs.Pools.{Pooled, Ask, held}

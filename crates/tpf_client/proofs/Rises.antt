@@ -5,7 +5,7 @@ use Rattle.std.specs.List.{AllByRecursion}
 use Rattle.list_laws.proofs.Each.{all_so}
 use Rattle.tpf_base.specs.Addresses.{Address}
 use Rattle.tpf_base.specs.Links.{All, Nature, WireState}
-use Rattle.join_core.specs.Evaluations.{HasHome}
+use Rattle.request_plan.specs.Evaluations.{HasHome}
 use Rattle.request_pool.specs.declared.fault.PoolFault.{PoolFault}
 use Rattle.request_pool.specs.declared.fault.Stepped.{Stepped}
 use Rattle.request_pool.specs.Pools.{Pooled, Ask, held}

@@ -8,14 +8,14 @@ use Rattle.template_fill.specs.Bodies.{version_of}
 use Rattle.template_fill.specs.Answered.{is_answered}
 use Rattle.bgp_core.specs.Queries.{QueryData}
 use Rattle.request_pool.specs.Pools.{Pooled}
-use Rattle.join_core.specs.Nodes.{plan}
-use Rattle.join_core.specs.Blocks.{IsBlockSize}
-use Rattle.join_core.specs.Evaluations.{HasHome}
+use Rattle.request_plan.specs.Plans.{plan}
+use Rattle.request_plan.specs.Blocks.{IsBlockSize}
+use Rattle.request_plan.specs.Evaluations.{HasHome}
 use Rattle.plan_laws.specs.Servers.{server_world}
 use Rattle.tpf_client.specs.declared.options.Options.{Options}
 use Rattle.tpf_client.specs.Traffic.{PoolEvent, IsLawful}
 use Rattle.fragment_page.specs.declared.page.Page.{Page}
-use Rattle.join_core.specs.Beginnings.{no_names_bound}
+use Rattle.request_plan.specs.Beginnings.{no_names_bound}
 use Rattle.tpf_client.specs.Turns.{AsksAt}
 use Rattle.tpf_client.specs.Told.{told_at, told_first}
 use Rattle.tpf_client.specs.Starts.{ReadsStarts, forms_of, versions_of}

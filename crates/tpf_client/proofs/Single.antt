@@ -15,8 +15,8 @@ use Rattle.tpf_client.specs.declared.fault.ClientFault.TheVariants as faults
 use Rattle.tpf_client.specs.Traffic.{IsLawful}
 use Rattle.tpf_client.specs.Sources.{world_sources}
 use Rattle.tpf_client.specs.Calls.{Happened, AreThese, Returns, WritesSome, most_asked}
-use Rattle.join_core.specs.Blocks.{IsBlockSize}
-use Rattle.join_core.specs.Evaluations.{HasHome}
+use Rattle.request_plan.specs.Blocks.{IsBlockSize}
+use Rattle.request_plan.specs.Evaluations.{HasHome}
 use Rattle.tpf_client.specs.Offers.{Publisher, IsVersionOf, Offer, offer_in_blocks}
 use Rattle.tpf_client.specs.Ends.{ends_in_blocks}
 use Rattle.tpf_client.specs.Honest.{Laws, IsHonestWire}

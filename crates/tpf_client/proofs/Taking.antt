@@ -9,9 +9,9 @@ use Rattle.template_fill.specs.Authorities.{ShareAuthority}
 use Rattle.control_reader.specs.Authorities.{KeepsAuthority}
 use Rattle.fragment_page.specs.declared.page.Page.{Page}
 use Rattle.control_reader.specs.Takes.{Takes}
-use Rattle.join_core.specs.Evaluations.{Account, Standing, HasHome, NextAtHome, StandsAfterAnswer, OwesAfterAnswer}
-use Rattle.join_core.specs.declared.evaluation.Answered.{Answered}
-use Rattle.join_core.specs.declared.evaluation.Answered.TheVariants as answers
+use Rattle.request_plan.specs.Evaluations.{Account, Standing, HasHome, NextAtHome, StandsAfterAnswer, OwesAfterAnswer}
+use Rattle.request_plan.specs.declared.evaluation.Answered.{Answered}
+use Rattle.request_plan.specs.declared.evaluation.Answered.TheVariants as answers
 use Rattle.tpf_client.specs.declared.asks.Arrived.{Arrived}
 use Rattle.tpf_client.specs.declared.fault.ClientFault.{ClientFault}
 use Rattle.tpf_client.specs.declared.fault.ClientFault.TheVariants as faults

@@ -19,8 +19,8 @@ use Rattle.fragment_page.specs.declared.page.Page.{Page}
 use Rattle.control_reader.specs.Takes.{Takes}
 use Rattle.control_laws.specs.Law.{NothingElseIsRead, IsReadFrom, IsServerForm}
 use Rattle.pool_laws.specs.Answers.{IsBodyOf, IsBodyOver}
-use Rattle.join_core.specs.Worlds.{IsPageAt}
-use Rattle.join_core.specs.Blocks.{IsBlockSize}
+use Rattle.request_plan.specs.Worlds.{IsPageAt}
+use Rattle.request_plan.specs.Blocks.{IsBlockSize}
 use Rattle.plan_laws.specs.Servers.{asked_at, server_world, ServersAreWorlds, ServersHaveForms, ServersPagesAreTrue}
 use Rattle.plan_laws.proofs.Plans.{read_asked}
 use Rattle.plan_laws.proofs.Selections.{selection_kept}

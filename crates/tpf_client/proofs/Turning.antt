@@ -6,8 +6,8 @@ use Rattle.std.proofs.lemmas.List.{length-append}
 use Rattle.std.proofs.lemmas.List.Elements.{All-nil, All-cons, All-append}
 use Rattle.bgp_core.specs.Solutions.{Places}
 use Rattle.request_pool.specs.Pools.{Pooled, Ask, held}
-use Rattle.join_core.specs.Evaluations.{Account, Standing, HasHome, NumbersAsk, TakesOne as OneTaken, HandsOver, GivesOwed, StandsAfterAsk, OwesAfterAsk, AsksAtHome, EndsInQuiet}
-use Rattle.join_core.specs.declared.evaluation.Ask.{Ask as JoinAsk}
+use Rattle.request_plan.specs.Evaluations.{Account, Standing, HasHome, NumbersAsk, TakesOne as OneTaken, HandsOver, GivesOwed, StandsAfterAsk, OwesAfterAsk, AsksAtHome, EndsInQuiet}
+use Rattle.request_plan.specs.declared.evaluation.Ask.{Ask as JoinAsk}
 use Rattle.tpf_client.specs.Traffic.{is_under}
 use Rattle.tpf_client.specs.Asking.{PutsOne}
 use Rattle.tpf_client.specs.Turns.{Limits, most_waiting, Meets, is_number, IsOut, HandsAll, Hands, Gives}

@@ -13,7 +13,7 @@ use Rattle.fragment_page.specs.declared.page.Page.{Page}
 use Rattle.result_json.specs.Pieces.{PiecesMakeTheText, RowsGoOn}
 use Rattle.request_pool.specs.Pools.{Pooled, held}
 use Rattle.request_pool.specs.Owned.{SuitsWire}
-use Rattle.join_core.specs.Rounds.{FormsAtHome}
+use Rattle.request_plan.specs.Rounds.{FormsAtHome}
 use Rattle.tpf_client.specs.declared.options.Options.{Options}
 use Rattle.tpf_client.specs.declared.options.Report.{Report}
 use Rattle.tpf_client.specs.declared.fault.ClientFault.{ClientFault}

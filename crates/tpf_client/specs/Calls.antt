@@ -35,7 +35,7 @@ use Rattle.tpf_client.specs.Turns.{ArePages, AsksAt, WaitFew, asked_in}
 use Rattle.tpf_client.specs.Sources.{Sources, IsSourceOf, GivesSolutions, GivesSome}
 -- ---- the solutions
 
-pub use Rattle.join_core.specs.Beginnings.{no_names_bound, solutions_of}
+pub use Rattle.request_plan.specs.Beginnings.{no_names_bound, solutions_of}
 
 -- ---- the text
 

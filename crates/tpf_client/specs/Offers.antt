@@ -10,8 +10,8 @@ use Rattle.template_fill.specs.Answered.{is_answered}
 use Rattle.template_fill.specs.Bodies.{version_of}
 use Rattle.bgp_core.specs.Queries.{QueryData}
 use Rattle.bgp_core.specs.Solutions.{Places}
-use Rattle.join_core.specs.Nodes.{plan}
-use Rattle.join_core.specs.Worlds.{World}
+use Rattle.request_plan.specs.Plans.{plan}
+use Rattle.request_plan.specs.Worlds.{World}
 use Rattle.plan_laws.specs.Servers.{server_world}
 use Rattle.plan_laws.specs.JointWorlds.{union, joint_world}
 use Rattle.tpf_client.specs.Calls.{no_names_bound, solutions_of}

@@ -6,8 +6,8 @@ use Rattle.template_fill.specs.declared.form.Form.{Form}
 use Rattle.fragment_page.specs.declared.page.Page.{Page}
 use Rattle.bgp_core.specs.Queries.{QueryData}
 use Rattle.bgp_core.specs.Solutions.{Places}
-use Rattle.join_core.specs.Beginnings.{FitsWorld, world_rows, world_plan, world_reported}
-use Rattle.join_core.specs.Worlds.{World, IsPageAt}
+use Rattle.request_plan.specs.Beginnings.{FitsWorld, world_rows, world_plan, world_reported}
+use Rattle.request_plan.specs.Worlds.{World, IsPageAt}
 use Rattle.tpf_client.specs.Traffic.{PoolEvent}
 use Rattle.tpf_client.specs.Causes.{Versions}
 use Rattle.tpf_client.specs.Turns.{AreTrue, asked_in, address_of}

@@ -9,7 +9,7 @@ use Rattle.fragment_page.specs.declared.page.Page.{Page}
 use Rattle.control_reader.specs.Takes.{Takes}
 use Rattle.request_pool.specs.Pools.{Pooled, Ask, held}
 use Rattle.request_pool.specs.Owned.{SuitsWire}
-use Rattle.join_core.specs.Evaluations.{Account, Standing, Terms, Sizes, HasHome, EndsNumber, EndsTicket}
+use Rattle.request_plan.specs.Evaluations.{Account, Standing, Terms, Sizes, HasHome, EndsNumber, EndsTicket}
 use Rattle.tpf_client.specs.declared.asks.Arrived.{Arrived}
 use Rattle.tpf_client.specs.declared.fault.ClientFault.{ClientFault}
 use Rattle.tpf_client.specs.Traffic.{is_under, AreDistinct, PoolEvent, Asked, Came, Waited, Broke, Travels}

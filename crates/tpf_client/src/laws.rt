@@ -8,7 +8,6 @@ ghost use Rattle.tpf_client.specs.Requests.{TrafficLaws};
 use control_laws::controls_read_back;
 use control_reader::a_body_is_one_page;
 use http_ends::{a_reading_stays, a_response_is_cut, an_answer_is_read, requests_are_cut};
-use join_core::BlockSize;
 use plan_laws::a_server_is_a_world;
 use pool_laws::{
     a_step_has_a_cause, asks_are_answered, exchanges_are_counted, failures_are_ends,
@@ -16,6 +15,7 @@ use pool_laws::{
     steps_provoke_nothing, whole_replies_come_first, whole_requests_are_sent,
 };
 use rdf_terms::laws::askable_slots_are_kept;
+use request_plan::BlockSize;
 use result_json::laws::{pieces_make_the_text, rows_go_on};
 use template_fill::laws::{
     authorities_are_hosts_and_ports, pages_are_answered, pages_share_authority,

@@ -25,6 +25,6 @@ mod turns;
 
 pub use calls::{collect, evaluate_rows, evaluate_to, query};
 pub use fault::ClientFault;
-pub use join_core::BlockSize;
 pub use options::{Options, Report};
+pub use request_plan::BlockSize;
 pub use rows::GATHERED;

@@ -1,5 +1,5 @@
 // What bounds a call, and what it tells at its end.
-use join_core::BlockSize;
+use request_plan::BlockSize;
 
 /// What bounds a call.
 #[derive(Clone, Copy, Debug, PartialEq, Eq)]

@@ -11,7 +11,7 @@ use crate::asks::{Arrived, Asks, Next};
 use crate::fault::shown;
 use crate::{ClientFault, laws};
 use control_reader::{Page, PageFault, read_page};
-use join_core::FormList;
+use request_plan::FormList;
 use request_pool::PoolFault;
 use std::alloc::Global;
 use std::sync::Wait;

@@ -1,6 +1,6 @@
 use Rattle.std.proofs.Common.{Option, subst}
 use Rattle.tpf_base.specs.Addresses.{Address}
-use Rattle.join_core.specs.declared.round.RoundAsk.{RoundAsk}
+use Rattle.request_plan.specs.declared.round.RoundAsk.{RoundAsk}
 use Rattle.join_core.specs.Outcomes.{AskDone, AskNumbered, AskStarts}
 use Rattle.join_core.specs.Sound.{AsksRoundAtHome}
 use Rattle.joint_pages.specs.Gatherings.{GatheringData, HandsPart, HandsNext}

@@ -3,12 +3,12 @@ use Rattle.std.specs.List.{All}
 use Rattle.bgp_core.specs.declared.pattern.Pattern.{Pattern}
 use Rattle.bgp_core.specs.Queries.{HasPlacesFor}
 use Rattle.bgp_core.specs.Solutions.{Places}
-use Rattle.join_core.specs.Blocks.{forms_cut}
-use Rattle.join_core.specs.Nodes.{found, opened}
+use Rattle.request_plan.specs.Blocks.{forms_cut}
+use Rattle.request_plan.specs.Plans.{found, HavePlacesFor}
+use Rattle.join_core.specs.Nodes.{opened}
 use Rattle.join_core.specs.Events.{next_walk}
-use Rattle.join_core.specs.Shown.{HavePlacesFor}
 use Rattle.join_core.specs.Levels.{seed_node}
-use Rattle.join_core.proofs.Valid.{found-places}
+use Rattle.request_plan.proofs.Valid.{found-places}
 use Rattle.join_core.proofs.Outs.{made-idle}
 use Rattle.join_core.proofs.making.made_of.Goals as goal
 

@@ -3,7 +3,7 @@ use Rattle.std.specs.List.{All}
 use Rattle.bgp_core.specs.declared.pattern.Pattern.{Pattern}
 use Rattle.bgp_core.specs.Solutions.{Places}
 use Rattle.bgp_core.specs.Queries.{HasPlacesFor}
-use Rattle.join_core.specs.Shown.{HavePlacesFor}
+use Rattle.request_plan.specs.Plans.{HavePlacesFor}
 use Rattle.join_core.proofs.node.walking.Goals as goal
 
 pub invariant_of-result : goal.invariant_of-result

@@ -1,8 +1,8 @@
 use Rattle.std.proofs.Common.{List, length, sym, subst}
-use Rattle.join_core.specs.Evaluations.{Terms}
+use Rattle.request_plan.specs.Evaluations.{Terms}
 use Rattle.plan_laws.specs.JointWorlds.{joint_world}
 use Rattle.joint_pages.specs.Gatherings.{GatheringData}
-use Rattle.join_core.specs.Beginnings.{BeginsWith}
+use Rattle.request_plan.specs.Beginnings.{BeginsWith}
 use Rattle.federation.specs.Beginnings.{joint_rows, joint_plan}
 use Rattle.federation.specs.Federations.{SuitsAll, KeepsAll, account_of}
 use Rattle.federation.proofs.Beginning.{fresh-of, fresh-suits, fresh-owes, fresh-keeps}

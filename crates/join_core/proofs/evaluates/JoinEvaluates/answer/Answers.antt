@@ -1,4 +1,4 @@
-use Rattle.join_core.specs.JointPages.{joint_page}
+use Rattle.request_plan.specs.JointPages.{joint_page}
 use Rattle.join_core.specs.Sound.{KeepsTo}
 use Rattle.join_core.proofs.Evaluating.{answer-suits, answer-owes, one-true, answer-sizes, on-ok}
 use Rattle.join_core.proofs.evaluates.JoinEvaluates.answer.Goals as goal

@@ -2,7 +2,7 @@ use Rattle.std.proofs.Common.{sym, subst, ◌∙◌}
 use Rattle.std.specs.List.{All}
 use Rattle.join_core.specs.Joins.{JoinData, Suits}
 use Rattle.join_core.specs.Sound.{KeepsTo, IsKeptSmall}
-use Rattle.join_core.specs.Evaluations.{HasHome}
+use Rattle.request_plan.specs.Evaluations.{HasHome}
 use Rattle.join_core.proofs.Evaluating.{handed-as, first-as, one-ask-home}
 use Rattle.join_core.proofs.join.Join.next_ask.Goals.{in-None, in-Some}
 use Rattle.join_core.proofs.join.Join.next_ask.Goals as goal

@@ -1,11 +1,12 @@
 use Rattle.std.proofs.Common.{◌≡◌, ◌<◌, length, map, ◌∙◌, ap, sym, subst, get_or, arith}
-use Rattle.join_core.specs.Blocks.{forms_cut}
-use Rattle.join_core.specs.Nodes.{NodeData, IsAsking, least, count_of}
+use Rattle.request_plan.specs.Blocks.{forms_cut}
+use Rattle.request_plan.specs.Plans.{least, HavePlacesFor}
+use Rattle.join_core.specs.Nodes.{NodeData, IsAsking, count_of}
 use Rattle.join_core.specs.Events.{IsChosen, IsChosenIn}
-use Rattle.join_core.specs.Shown.{stage_of, HavePlacesFor, IsMadeStage}
+use Rattle.join_core.specs.Shown.{stage_of, IsMadeStage}
 use Rattle.join_core.specs.declared.node.Progress.{Progress}
 use Rattle.join_core.specs.Levels.{seed_node}
-use Rattle.join_core.proofs.Valid.{places-found}
+use Rattle.request_plan.proofs.Valid.{places-found}
 use Rattle.join_core.proofs.node.Node.choose.Goals as goal
 
 pub made_first_held-requires-clause-chosen : goal.made_first_held-requires-clause-chosen

@@ -2,7 +2,7 @@ use Rattle.std.proofs.Common.{◌≡◌, ◌<◌, length, map, get_or, sym, subs
 use Rattle.std.specs.List.{remove}
 use Rattle.std.proofs.lemmas.Result.{IfOk-weaker}
 use Rattle.bgp_core.specs.declared.pattern.Pattern.{Pattern}
-use Rattle.join_core.specs.Blocks.{forms_cut}
+use Rattle.request_plan.specs.Blocks.{forms_cut}
 use Rattle.join_core.specs.Nodes.{NodeData}
 use Rattle.join_core.specs.Events.{MadeOf, chosen_page}
 use Rattle.join_core.specs.Levels.{seed_node}

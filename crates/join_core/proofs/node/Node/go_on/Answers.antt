@@ -1,7 +1,7 @@
 use Rattle.std.proofs.Common.{◌<◌, length, ◌∙◌, ap, sym, subst, get_or}
 use Rattle.join_core.specs.Nodes.{NodeData}
-use Rattle.join_core.specs.Shown.{HavePlacesFor}
-use Rattle.join_core.proofs.Valid.{places-found}
+use Rattle.request_plan.specs.Plans.{HavePlacesFor}
+use Rattle.request_plan.proofs.Valid.{places-found}
 use Rattle.join_core.proofs.node.Node.go_on.Goals as goal
 
 pub made_of-requires-clause-chosen : goal.made_of-requires-clause-chosen

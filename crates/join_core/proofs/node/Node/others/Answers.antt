@@ -2,8 +2,8 @@ use Rattle.std.proofs.Common.{rules, ◌≡◌, List, subst, sym}
 use Rattle.std.specs.List.{remove}
 use Rattle.bgp_core.specs.declared.pattern.Pattern.{Pattern}
 use Rattle.join_core.specs.Nodes.{NodeData}
-use Rattle.join_core.specs.Shown.{HavePlacesFor}
-use Rattle.join_core.proofs.Valid.{places-remove}
+use Rattle.request_plan.specs.Plans.{HavePlacesFor}
+use Rattle.request_plan.proofs.Valid.{places-remove}
 use Rattle.join_core.proofs.node.Node.others.Goals as goal
 
 pub returns-clause-places : goal.returns-clause-places

@@ -1,7 +1,7 @@
 use Rattle.std.proofs.Common.{◌≡◌, Bool, true, List, ap, sym, subst, ◌∙◌}
 use Rattle.std.specs.Prelude.{IfOk}
 use Rattle.rdf_terms.specs.declared.term.Triple.{Triple}
-use Rattle.join_core.specs.declared.joint_page.JointPage.{JointPage}
+use Rattle.request_plan.specs.declared.joint_page.JointPage.{JointPage}
 use Rattle.joint_pages.specs.Parts.{pages_in}
 use Rattle.joint_pages.specs.Joined.{joined, joined_as}
 use Rattle.joint_pages.specs.Gatherings.{GatheringData}

@@ -1,7 +1,7 @@
 use Rattle.std.proofs.Common.{refl, sym, subst}
 use Rattle.std.specs.Option.{option_map}
 use Rattle.std.specs.Rc.{rc_value}
-use Rattle.join_core.specs.Rounds.{taken_of}
+use Rattle.request_plan.specs.Rounds.{taken_of}
 use Rattle.joint_pages.specs.Gatherings.{GatheringData, AwaitsAt, TakesPart}
 use Rattle.joint_pages.proofs.Places.{take-part}
 use Rattle.joint_pages.proofs.gathering.Gathering.take.Goals as goal

@@ -1,5 +1,0 @@
-use Rattle.std.proofs.Common.{◌-◌, length}
-use Rattle.join_core.proofs.block.+fitting_from.Given as goal
-
-abbrev pub decreases-fitting_from : goal.decreases-fitting_from
-decreases-fitting_from l = length l.patterns.now - l.index

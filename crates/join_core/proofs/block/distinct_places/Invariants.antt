@@ -1,7 +1,0 @@
-use Rattle.std.proofs.Common.{suc, ◌≡◌, map, take}
-use Rattle.bgp_core.specs.Instances.{bound_places}
-use Rattle.join_core.specs.Blocks.{distinct_slots}
-use Rattle.join_core.proofs.block.distinct_places.Given as goal
-
-abbrev pub invariant-loop-row : goal.invariant-loop-row
-invariant-loop-row l = l.distinct.items ≡ distinct_slots (map (bound_places l.pattern) (take (suc l.row-index) l.block))

@@ -1,6 +1,0 @@
-use Rattle.std.proofs.Common.{◌≡◌, take}
-use Rattle.join_core.specs.Nodes.{found}
-use Rattle.join_core.proofs.expand.expand_held.Given as goal
-
-abbrev pub invariant-loop-triple : goal.invariant-loop-triple
-invariant-loop-triple l = l.found.items ≡ found l.chosen l.block (take l.triple-index l.held)

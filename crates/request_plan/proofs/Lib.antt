@@ -1,0 +1,17 @@
+pub mod Valid
+pub mod Blanks
+pub mod Lists
+pub mod Under
+pub mod Cuts
+pub mod Alike
+pub mod Asked
+pub mod Matching
+pub mod Grown
+pub mod RowByRow
+pub mod Targets
+pub mod Distinct
+pub mod Lengths
+pub mod Pages
+pub mod Expanding
+pub mod Sets
+pub mod Bindings

@@ -1,0 +1,10 @@
+pub mod Evaluations
+pub mod Rounds
+pub mod JointPages
+pub mod Blocks
+pub mod Worlds
+pub mod Plans
+pub mod RowPlans
+pub mod BlockLaws
+pub mod Targets
+pub mod Beginnings
