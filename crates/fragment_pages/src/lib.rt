@@ -1,12 +1,11 @@
 //! Pages of the triples that match a pattern (Triple Pattern Fragments, "Fragments" and "Paging").
 //!
-//! How many triples stand on page `k`, where a page has at most three, how many the whole fragment has,
-//! and the number of its last page; `None` where there is no such page:
+//! How many triples stand on a page of this number, where a page has at most three, how many the whole
+//! fragment has, and the number of its last page; `None` where there is no such page:
 //!
 //! ```rust
-//! let mut steps: Steps<L> = Steps::new(blank);
-//! match page(table, slots, k, 3, &mut steps) {
-//!     Some(view) => Some((view.to - view.from, view.count, view.last)),
+//! match page(table, slots, number, 3, steps) {
+//!     Some(view) => Some([(view.to - view.from) as u64, view.count, view.last]),
 //!     None => None,
 //! }
 //! ```

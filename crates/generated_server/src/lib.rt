@@ -1,10 +1,11 @@
 //! A server of generated data.
 //!
-//! The server of the data of so many persons, under the configuration of a server in one process:
+//! The server of the data of so many persons is that of their table, under any configuration:
 //!
 //! ```rust
-//! let config = local_config(alloc, PAGE)?;
-//! server_of_generated(alloc, persons, config)
+//! let table = table_of(alloc, persons, &config)?;
+//! let server = Server::new(alloc, table, config)?;
+//! Ok(FragmentServer::new(server))
 //! ```
 #![tactic(auto)]
 

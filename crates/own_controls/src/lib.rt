@@ -2,13 +2,13 @@
 //! "Controls").
 //!
 //! Such a page ends with 19 to 21 lines, of which all but a few numbers and addresses are known before they are read. So
-//! they are compared, and no quads are made of them:
+//! they are compared, and no quads are made of them. What is told of such a page, and `other` for any other one:
 //!
 //! ```rust
-//! let address = WebAddress::read(alloc, "http://h/d")?;
-//! let own = own_controls(body.as_bytes(), &address).ok_or("a page of our own")?;
-//! assert_eq!(rt; own.count, 1);
-//! assert_eq!(rt; own.template, "http://h/d{?subject,predicate,object}");
+//! match own_controls(body.as_slice(), &address) {
+//!     Some(own) => own_text(alloc, &own),
+//!     None => word_text(alloc, "other"),
+//! }
 //! ```
 #![tactic(auto)]
 

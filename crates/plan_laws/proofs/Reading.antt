@@ -3,9 +3,8 @@ use Rattle.std.proofs.Common.{ℕ, suc, ◌≡◌, ◌+◌, ◌-◌, ◌/◌, �
 use Rattle.std.specs.List.{AllByRecursion, Contains}
 use Rattle.list_laws.proofs.Members.{at_head, in_tail, all_from, in_flat_map}
 use Rattle.list_laws.proofs.Told.{all_in}
-use Rattle.tpf_base.specs.declared.limits.TheConstants.{HIGHEST_NUMBER}
+use Rattle.tpf_base.specs.declared.limits.TheConstants.{HEAD_LIMIT, HIGHEST_NUMBER}
 use Rattle.tpf_base.specs.Addresses.{Address, IsAddress, address_text, authority_of, target_of, query_text}
-use Rattle.tpf_base.specs.HttpHeads.{head_limit}
 use Rattle.tpf_base.specs.HttpText.{request_text}
 use Rattle.tpf_base.specs.Marks.{Mark, version_at}
 use Rattle.rdf_terms.specs.declared.term.Term.{Term}
@@ -89,7 +88,7 @@ request_short authority target = simp length-append (omega (arith, get_long, htt
 parts_short : (address : Address) → length (authority_of address) + length (target_of address) ≤ length (address_text address)
 parts_short address = omega (arith, length-append (codes "http://" ++ authority_of address) (target_of address), length-append (codes "http://") (authority_of address))
 
-request_fits : (address : Address) → length (authority_of address) + length (target_of address) ≤ 4194000 → length (request_for address) ≤ head_limit
+request_fits : (address : Address) → length (authority_of address) + length (target_of address) ≤ 4194000 → length (request_for address) ≤ HEAD_LIMIT
 request_fits address h = omega (arith, h, request_short (authority_of address) (target_of address))
 
 -- the address of a page is no longer than its text

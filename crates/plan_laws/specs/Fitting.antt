@@ -1,9 +1,8 @@
 -- Plans whose addresses are answered with pages that are read (Triple Pattern Fragments; Verborgh et al.).
 use Rattle.std.specs.Prelude.{ℕ, ◌≡◌, ◌+◌, ◌≤◌, true, List, length, replicate, None, ⊤}
 use Rattle.std.specs.List.{AllByRecursion, Contains}
-use Rattle.tpf_base.specs.declared.limits.TheConstants.{HIGHEST_NUMBER}
+use Rattle.tpf_base.specs.declared.limits.TheConstants.{HEAD_LIMIT, HIGHEST_NUMBER}
 use Rattle.tpf_base.specs.Addresses.{Address, address_text, authority_of, target_of}
-use Rattle.tpf_base.specs.HttpHeads.{head_limit}
 use Rattle.tpf_base.specs.Marks.{Mark, version_at}
 use Rattle.rdf_terms.specs.declared.term.Term.{Term}
 use Rattle.rdf_terms.specs.declared.term.Triple.{Triple}
@@ -29,7 +28,7 @@ use Rattle.plan_laws.specs.Servers.{server_world}
 
 -- the request for the address is within the limit of heads, and is answered with the status 200 and a body that is read as a page of the address
 pub record IsRead (history : List (List Triple)) (mark : Mark) (config : Config) (address : Address) : Type 0 where
-  pub short : length (request_for address) ≤ head_limit
+  pub short : length (request_for address) ≤ HEAD_LIMIT
   pub answered : is_answered history mark config address ≡ true
   pub page : Page
   pub taken : Takes (address_answer history mark config address).body address page

@@ -6,12 +6,11 @@
 //! server in the same process ends as planned:
 //!
 //! ```rust
-//! plans_are_read();
-//! is_few(&server);
+//! plan_laws::plans_are_read();
+//! laws::is_few(&server);
 //! server.server().is_valid();
-//! let failing = Failing::Dials(fail_every);
-//! let mut wire: LoopWire<FragmentConnection> = LoopWire::new(alloc, server, seed, failing);
-//! let answer = query_server(rt, alloc, query, start, options, &mut wire, out);
+//! let failing = Failing::Dials(asked.fail_every);
+//! let mut wire: LoopWire<FragmentConnection> = LoopWire::new(alloc, server, asked.seed, failing);
 //! ```
 #![tactic(auto)]
 

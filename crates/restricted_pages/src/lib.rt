@@ -1,14 +1,14 @@
 //! Pages of the triples of a fragment that match one of some rows (bindings-restricted Triple Pattern Fragments,
 //! brTPF).
 //!
-//! How many triples stand on page `k`, where a page has at most three, and how many all pages have together; `None`
-//! where there is no such page:
+//! The triples of the first pages, one page behind the other; there is no page past the last:
 //!
 //! ```rust
-//! let mut steps: Steps<L> = Steps::new(blank);
-//! match restricted_page(alloc, table, slots, rows, k, 3, &mut steps)? {
-//!     Some(page) => Ok(Some((page.triples.len(), page.count))),
-//!     None => Ok(None),
+//! for k in 1..10u64 {
+//!     let Some(page) = restricted_page(alloc, table, slots, rows, k, LARGEST_PAGE, steps)? else {
+//!         return Ok((triples, k - 1));
+//!     };
+//!     triples.extend_from_slice(&page.triples)?;
 //! }
 //! ```
 #![tactic(auto)]

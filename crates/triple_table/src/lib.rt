@@ -1,16 +1,13 @@
 //! The triples that are served, and the table that lists those of a pattern.
 //!
-//! How many triples of a table have a term as their object, and `None` where no triple holds it:
+//! A term is asked for by its id, and the triples of a pattern are a range of the table. Whether a triple stands at
+//! a place of a range:
 //!
 //! ```rust
-//! let object = table.id(term, &mut steps)?;
-//! let pattern = IdPattern {
-//!     subject: None,
-//!     predicate: None,
-//!     object: Some(object),
-//! };
-//! let range = table.range(&pattern, &mut steps);
-//! Some(table.count(&range))
+//! let ids = table.at(range, i);
+//! table.term(ids.subject).same(&triple.subject)
+//!     && table.term(ids.predicate).same(&triple.predicate)
+//!     && table.term(ids.object).same(&triple.object)
 //! ```
 #![tactic(auto)]
 
