@@ -1,17 +1,12 @@
 // A query over some of the servers.
 ghost use Rattle.std.specs.Prelude.{◌≡◌, ◌<◌, ◌+◌, ◌*◌, ◌≤◌, ◌^◌, ◌-◌, IfOk, OnOk};
 
-use crate::servers::{form_of, page_at};
-use bgp_core::{Query, Row};
+use crate::query::{check_rows, line, query_of};
+use crate::servers::{form_list, page_at};
 use federation::Federation;
-use nquads_text::canonical;
-use pattern_parser::parse;
-use request_plan::{Answered, Ask, BlockSize, Evaluates, FormList};
+use request_plan::{Answered, Ask, BlockSize, Evaluates};
 use std::alloc::Global;
 use std::test::Fail;
-use template_fill::{Form, WebAddress};
-
-const QUERY: &str = "SELECT * WHERE { ?x <http://e/k> ?y . ?y <http://e/n> ?z }";
 
 /// In which order the pages come that are awaited at once.
 #[derive(Clone, Copy, PartialEq, Eq)]
@@ -20,51 +15,16 @@ enum Order {
     Reverse,
 }
 
-fn query_of(alloc: Global) -> Result<Query, Fail> {
-    match parse(alloc, QUERY.as_bytes()) {
-        Ok(query) => Ok(query),
-        Err(_) => Err(Fail::new("no query")),
-    }
-}
-
-fn forms_of(alloc: Global, servers: &str) -> Result<Vec<Form>, Fail> {
-    let mut forms = Vec::new(alloc);
-    for server in servers.chars() {
-        forms.push(form_of(alloc, server)?)?;
-    }
-    Ok(forms)
-}
-
 /// The evaluation of the query over these servers.
 fn begin(alloc: Global, servers: &str, window: u32) -> Result<Federation, Fail>
     ensures { IfOk result (λ federation. federation.given ≡ 0) }
 {
+    if window == 0 {
+        return Err(Fail::new("no window"));
+    }
     let query = query_of(alloc)?;
-    let forms = forms_of(alloc, servers)?;
-    if forms.is_empty() || window == 0 {
-        return Err(Fail::new("no server or window"));
-    }
-    let forms = FormList::from_vec(forms);
+    let forms = form_list(alloc, servers)?;
     Ok(Federation::begin(alloc, &query, forms, window, BlockSize::one())?)
-}
-
-/// Adds the term of a name in canonical form, with a space behind it.
-fn add_term(row: &Row, name: u32, bytes: &mut Vec<u8>) -> Result<(), Fail> {
-    match row.term(name) {
-        Some(term) => canonical(term, bytes)?,
-        None => bytes.push(b'-')?,
-    }
-    bytes.push(b' ')?;
-    Ok(())
-}
-
-/// The three terms of a row.
-fn line(alloc: Global, row: &Row) -> Result<String, Fail> {
-    let mut bytes = Vec::new(alloc);
-    for name in 0..3u32 {
-        add_term(row, name, &mut bytes)?;
-    }
-    Ok(String::from_str(alloc, str::from_utf8(bytes.as_slice())?)?)
 }
 
 /// Takes the rows that wait, at most so many.
@@ -184,20 +144,6 @@ fn pages_over(
         return Err(Fail::new("it is not done"));
     }
     Ok(pages)
-}
-
-/// Fails where the rows, in ascending order, are others.
-fn check_rows(rows: &mut Vec<String>, wanted: &[&str]) -> Result<(), Fail> {
-    rows.sort()?;
-    if rows.len() != wanted.len() {
-        return Err(Fail::new(format_args!("{} rows", rows.len())));
-    }
-    for (row, wanted) in rows.iter().zip(wanted) {
-        if row.as_str() != *wanted {
-            return Err(Fail::new(format_args!("wanted {wanted}, got {row}")));
-        }
-    }
-    Ok(())
 }
 
 /// Fails where a query over these servers asks for another number of pages, or gives other rows.

@@ -1,9 +1,11 @@
-// What four servers hold: `a` and `d` in pages of one triple, `b` in pages of two, and `c` nothing. The triple
-// `<http://e/a> <http://e/k> <http://e/c>` stands in `a`, `b` and `d`: on the first page of `b`, and on the second of the others.
+// What five servers hold: `a`, `d` and `f` in pages of one triple, `b` in pages of two, and `c` nothing. The triple
+// `<http://e/a> <http://e/k> <http://e/c>` stands in all but `c`: on the first page of `b`, and on the second of the others.
+// `f` has the triples of `a`, and says other counts.
 
 use fragment_page::{Page, TripleList};
 use nquads_text::read_all;
 use rdf_terms::{Quad, Triple};
+use request_plan::FormList;
 use std::alloc::Global;
 use std::test::Fail;
 use template_fill::{Form, Template, WebAddress};
@@ -26,7 +28,7 @@ const NOTHING: Entry = Entry {
     next: "",
 };
 
-static PAGES: [Entry; 11] = [
+static PAGES: [Entry; 15] = [
     Entry {
         address: "http://a/d?p=http%3A%2F%2Fe%2Fk",
         triples: "<http://e/a> <http://e/k> <http://e/b> .\n",
@@ -93,6 +95,30 @@ static PAGES: [Entry; 11] = [
         count: 2,
         next: "",
     },
+    Entry {
+        address: "http://f/d?p=http%3A%2F%2Fe%2Fk",
+        triples: "<http://e/a> <http://e/k> <http://e/b> .\n",
+        count: 2,
+        next: "http://f/d?p=http%3A%2F%2Fe%2Fk&page=2",
+    },
+    Entry {
+        address: "http://f/d?p=http%3A%2F%2Fe%2Fk&page=2",
+        triples: "<http://e/a> <http://e/k> <http://e/c> .\n",
+        count: 2,
+        next: "",
+    },
+    Entry {
+        address: "http://f/d?p=http%3A%2F%2Fe%2Fn",
+        triples: "<http://e/c> <http://e/n> \"C\" .\n",
+        count: 2,
+        next: "",
+    },
+    Entry {
+        address: "http://f/d?s=http%3A%2F%2Fe%2Fc&p=http%3A%2F%2Fe%2Fn",
+        triples: "<http://e/c> <http://e/n> \"C\" .\n",
+        count: 1,
+        next: "",
+    },
 ];
 
 fn entry_at(address: &str) -> Entry {
@@ -132,12 +158,13 @@ fn template_of(server: char) -> &'static str {
         'a' => "http://a/d{?s,p,o}",
         'b' => "http://b/d{?s,p,o}",
         'd' => "http://d/d{?s,p,o}",
+        'f' => "http://f/d{?s,p,o}",
         _ => "http://c/d{?s,p,o}",
     }
 }
 
 /// The form of a server.
-pub fn form_of(alloc: Global, server: char) -> Result<Form, Fail> {
+fn form_of(alloc: Global, server: char) -> Result<Form, Fail> {
     let subject = Text::copy(alloc, "s")?;
     let predicate = Text::copy(alloc, "p")?;
     let object = Text::copy(alloc, "o")?;
@@ -152,16 +179,56 @@ pub fn form_of(alloc: Global, server: char) -> Result<Form, Fail> {
     }
 }
 
-/// The page at an address.
-pub fn page_at(alloc: Global, address: &WebAddress) -> Result<Page, Fail> {
+fn forms_of(alloc: Global, servers: &str) -> Result<Vec<Form>, Fail> {
+    let mut forms = Vec::new(alloc);
+    for server in servers.chars() {
+        forms.push(form_of(alloc, server)?)?;
+    }
+    Ok(forms)
+}
+
+/// The forms of servers.
+pub fn form_list(alloc: Global, servers: &str) -> Result<FormList, Fail> {
+    let forms = forms_of(alloc, servers)?;
+    if forms.is_empty() {
+        return Err(Fail::new("no server"));
+    }
+    Ok(FormList::from_vec(forms))
+}
+
+/// What one server gives of a fragment at once.
+#[derive(Drop)]
+pub struct Given {
+    pub triples: TripleList,
+    pub count: u64,
+    pub next: Option<WebAddress>,
+}
+
+/// What there is at an address.
+pub fn given_at(alloc: Global, address: &WebAddress) -> Result<Given, Fail> {
     let entry = entry_at(address.text());
     let next = next_of(alloc, entry.next)?;
     let triples = triples_of(alloc, entry.triples)?;
-    Ok(Page {
+    Ok(Given {
         triples: TripleList::from_vec(triples),
         count: entry.count,
         next,
-        form: form_of(alloc, 'c')?,
+    })
+}
+
+/// The page at an address.
+pub fn page_at(alloc: Global, address: &WebAddress) -> Result<Page, Fail> {
+    let form = form_of(alloc, 'c')?;
+    let Given {
+        triples,
+        count,
+        next,
+    } = given_at(alloc, address)?;
+    Ok(Page {
+        triples,
+        count,
+        next,
+        form,
         version: None,
     })
 }

@@ -1,4 +1,4 @@
-use Rattle.round_tests.proofs.joining.+turns.Given as goal
+use Rattle.federation_tests.proofs.rounds.+turns.Given as goal
 
 abbrev pub decreases-turns : goal.decreases-turns
 decreases-turns l = l.most
