@@ -1,30 +1,19 @@
 -- The place of a round among the rounds.
-use Rattle.std.proofs.Common.{ℕ, ◌≡◌, ◌+◌, ◌<◌, Bool, true, false, List, [], ◌∷◌, ◌++◌, length, take, get_or, set, Option, Some, None, Ok, Err, ap, sym, subst, ◌∙◌, append-nil, get_or-set_same}
+use Rattle.std.proofs.Common.{ℕ, ◌≡◌, ◌<◌, Bool, true, false, List, ◌∷◌, length, get_or, set, Option, Some, None, Ok, Err, ap, sym, subst, ◌∙◌, get_or-set_same}
 use Rattle.std.specs.Prelude.{Result, IfOk}
-use Rattle.std.specs.List.{All, remove}
+use Rattle.std.specs.List.{remove}
 use Rattle.std.specs.List.Sorted.{IsPermutation}
-use Rattle.std.proofs.lemmas.List.{take_more}
-use Rattle.std.proofs.lemmas.List.Concat.{flat_map-append}
-use Rattle.std.proofs.lemmas.List.Elements.{All-append}
 use Rattle.std.proofs.lemmas.List.Sorted.{IsPermutation-refl}
 use Rattle.list_laws.proofs.Places.{any_default}
 use Rattle.tpf_base.specs.Addresses.{Address}
 use Rattle.fragment_page.specs.declared.page.Page.{Page}
-use Rattle.joint_pages.specs.Gatherings.{GatheringData, HandsNext, IsStranger, tickets_of}
+use Rattle.joint_pages.specs.Gatherings.{GatheringData, HandsNext}
 use Rattle.federation.specs.declared.rounds.Spot.{Spot}
-use Rattle.federation.specs.Federations.{all_tickets}
-use Rattle.federation.specs.Changes.{WantsAt, IsUnknown, HandsIn, PutsAt, StaysOpen, ComesOut}
+use Rattle.federation.specs.Changes.{WantsAt, HandsIn, PutsAt, StaysOpen, ComesOut}
 use Rattle.federation.proofs.Lists.{at-place, set-place, removed-set}
 
 pub same-there : {X : Type 0} (xs : List X) (n : ℕ) (x y : X) → n < length xs → x ≡ get_or xs n x → y ≡ get_or xs n y → x ≡ y
 same-there xs n x y h e f = e ∙ any_default xs n x y h ∙ sym f
-
--- a ticket that is none of those before a place, and none of the round there
-pub unknown-more : (rounds : List GatheringData) (place : ℕ) (g : GatheringData) (ticket : ℕ) → place < length rounds → g ≡ get_or rounds place g → IsUnknown (take place rounds) ticket → IsStranger g.parts ticket → IsUnknown (take (place + 1) rounds) ticket
-unknown-more rounds place g ticket h e before here =
-    let more : take (place + 1) rounds ≡ take place rounds ++ g ∷ [] = take_more rounds place g h ∙ ap (λ (x : GatheringData). take place rounds ++ x ∷ []) (sym e) in
-    let one : all_tickets (take place rounds ++ g ∷ []) ≡ all_tickets (take place rounds) ++ tickets_of g = flat_map-append tickets_of (take place rounds) (g ∷ []) ∙ ap (λ (l : List ℕ). all_tickets (take place rounds) ++ l) (append-nil (tickets_of g)) in
-    subst (λ (l : List GatheringData). All (λ t. t ≡ ticket → ⊥) (all_tickets l)) (sym more) (subst (λ (l : List ℕ). All (λ t. t ≡ ticket → ⊥) l) (sym one) (All-append (λ t. t ≡ ticket → ⊥) (all_tickets (take place rounds)) (tickets_of g) before here))
 
 -- the round at a place handed out an address, which it wanted
 pub handed-in : {E : Type 0} (old : List GatheringData) (place ticket : ℕ) (g after : GatheringData) (result : Result (Option Address) E) → WantsAt old place → g ≡ get_or old place g → IfOk result (HandsNext g after ticket) → IfOk result (HandsIn old (set old place after) ticket)

@@ -1,5 +1,5 @@
 // One query over several servers.
-ghost use Rattle.std.specs.Prelude.{ℕ, ◌≡◌, ◌+◌, ◌-◌, ◌*◌, ◌<◌, ◌≤◌, ◌^◌, List, [], ◌∷◌, length, true, false, IfOk};
+ghost use Rattle.std.specs.Prelude.{◌≡◌, ◌+◌, ◌-◌, ◌*◌, ◌<◌, ◌≤◌, ◌^◌, List, [], length, true, false, IfOk};
 ghost use Rattle.tpf_base.specs.Addresses.{Address};
 ghost use Rattle.request_plan.specs.Worlds.{World};
 ghost use Rattle.request_plan.specs.Rounds.{FormsAtHome};

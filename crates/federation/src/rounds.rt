@@ -1,5 +1,5 @@
 // The rounds whose pages are gathered.
-ghost use Rattle.std.specs.Prelude.{ℕ, ◌≡◌, IfOk, IfSome, IfNone};
+ghost use Rattle.std.specs.Prelude.{ℕ, IfOk, IfSome, IfNone};
 ghost use Rattle.federation.specs.Changes.{WantsAt, NoneWant, AwaitsIn, IsUnknown, HandsIn, PutsAt, TakesIn};
 
 use fragment_page::Page;

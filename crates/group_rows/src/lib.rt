@@ -1,13 +1,13 @@
 //! Queries with groups evaluated over the rows of their blocks (SPARQL 1.1, 18.5 and 18.6), wherever these come from.
 //!
-//! The rows of each block, in the order in which the blocks are written:
+//! The answers over the rows of each block, in the order in which the blocks are written:
 //!
 //! ```rust
-//! let mut blocks = VecDeque::new(alloc);
-//! for patterns in asked {
-//!     blocks.push_back(Rows::new(rows_of(patterns)?))?;
+//! let blocks = blocks_of(alloc, shown.names().len(), texts)?;
+//! match evaluate(alloc, query, blocks) {
+//!     Ok(rows) => rows_text(alloc, shown, rows.as_slice()),
+//!     Err(_) => Err(CaseFault::OutOfMemory),
 //! }
-//! let answers = evaluate(alloc, &query, blocks)?;
 //! ```
 #![tactic(auto)]
 

@@ -64,9 +64,6 @@ tickets-are-below terms j k = k.tickets
 pub begun-left : (w : World) (patterns : List Pattern) (row : Places) (j : JoinData) → Begins w patterns row j → IsPermutation (plan w patterns row) (account_of w j).left
 begun-left w patterns row j b = flat_map_IsPermutation (λ (round : RoundData). round.addresses) (round_plan w patterns (row ∷ [])) (left_over w j) b.left
 
-pub begun-out : (w : World) (patterns : List Pattern) (row : Places) (j : JoinData) → Begins w patterns row j → (account_of w j).out ≡ []
-begun-out w patterns row j b = ap (λ (l : List (ℕ × RoundData)). pairs_in l) b.out
-
 -- ---- how many tickets are out
 
 first-few : (fs : List First) → length (first_tickets fs) ≤ length fs

@@ -1,10 +1,8 @@
 -- Pages that were taken one after another make the page of the round.
-use Rattle.std.proofs.Common.{ℕ, ◌≡◌, ◌+◌, Bool, true, false, if◌then◌else◌, List, [], ◌∷◌, ◌++◌, refl, ap, sym, ◌∙◌, append-nil, append_assoc, arith, Ok, Err}
+use Rattle.std.proofs.Common.{ℕ, ◌≡◌, ◌+◌, Bool, true, if◌then◌else◌, List, [], ◌∷◌, ◌++◌, refl, ap, sym, ◌∙◌, append-nil, append_assoc, arith, Ok, Err}
 use Rattle.std.specs.Prelude.{option_to_list, Result, IfOk}
 use Rattle.std.proofs.lemmas.List.Sums.{sum_by-cons}
 use Rattle.rdf_terms.specs.declared.term.Triple.{Triple}
-use Rattle.rdf_terms.specs.Fragments.{put}
-use Rattle.rdf_terms.specs.Order.{triple_order}
 use Rattle.bgp_core.specs.Solutions.{unless_before, distinct_after}
 use Rattle.tpf_base.specs.Addresses.{Address}
 use Rattle.fragment_page.specs.declared.page.Page.{Page}
@@ -27,12 +25,6 @@ had-none set had t e = sym (append-nil had) ∙ ap (λ (b : Bool). had ++ (if b 
 
 pub set-none : (set : List Triple) (t : Triple) → Stands set t ≡ true → set ≡ added set (unless_before set t)
 set-none set t e = ap (λ (b : Bool). added set (if b then [] else t ∷ [])) (sym e)
-
-pub had-one : (set had : List Triple) (t : Triple) → Stands set t ≡ false → had ++ t ∷ [] ≡ had ++ unless_before set t
-had-one set had t e = ap (λ (b : Bool). had ++ (if b then [] else t ∷ [])) (sym e)
-
-pub set-one : (set : List Triple) (t : Triple) → Stands set t ≡ false → put triple_order t set ≡ added set (unless_before set t)
-set-one set t e = ap (λ (b : Bool). added set (if b then [] else t ∷ [])) (sym e)
 
 -- ---- pages, one after another
 

@@ -6,20 +6,18 @@ use Rattle.std.specs.Ordering.{is_eq, ordering_then}
 use Rattle.std.specs.declared.cmp.Ordering.{Ordering}
 use Rattle.std.specs.declared.cmp.Ordering.TheVariants.{Less, Equal, Greater}
 use Rattle.std.specs.Cmp.Lexicographic.{slice_cmp}
-use Rattle.std.specs.List.{AllByRecursion, list_all, Contains}
+use Rattle.std.specs.List.{AllByRecursion, Contains}
 use Rattle.std.proofs.lemmas.Bool.{and_from, and_parts, true≢false, false≢true}
 use Rattle.list_laws.proofs.Each.{all_so, all_more}
 use Rattle.list_laws.proofs.Members.{head_or_tail, none_in}
-use Rattle.list_laws.proofs.Options.{none_not_some}
 use Rattle.list_laws.proofs.Lists.{cons_same}
 use Rattle.list_laws.proofs.Tests.{and_first, and_second, same_truth}
-use Rattle.rdf_terms.specs.Same.{term_eq}
 use Rattle.rdf_terms.specs.Order.{term_order}
 use Rattle.rdf_terms.specs.OrderLaws.{term_ties}
 use Rattle.rdf_terms.specs.EqualityLaws.{term_decides}
 use Rattle.rdf_terms.specs.declared.term.Term.{Term}
 use Rattle.bgp_core.specs.Solutions.{Places, term_at}
-use Rattle.bgp_core.specs.Merging.{compatible, MergingIsUnion, Binds}
+use Rattle.bgp_core.specs.Merging.{compatible, MergingIsUnion}
 use Rattle.row_algebra.specs.Algebra.{merge, place_eq, row_eq, BindsOnly}
 use Rattle.row_algebra.specs.Finding.{key_of, BindsAll, all_bind, shared_name}
 

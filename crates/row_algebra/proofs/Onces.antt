@@ -1,12 +1,12 @@
 -- Rows that stand once, by what stands before them.
-use Rattle.std.proofs.Common.{ℕ, suc, ◌≡◌, ◌<◌, ◌+◌, Bool, true, false, not, cond, ◌&&◌, ◌||◌, if◌then◌else◌, List, [], ◌∷◌, ◌++◌, length, get_or, take, drop, refl, ap, sym, subst, ◌∙◌, append-nil, append_assoc, add-one}
+use Rattle.std.proofs.Common.{ℕ, suc, ◌≡◌, ◌<◌, ◌+◌, Bool, true, false, not, cond, ◌&&◌, ◌||◌, List, [], ◌∷◌, ◌++◌, length, get_or, take, drop, refl, ap, sym, ◌∙◌, append-nil, append_assoc, add-one}
 use Rattle.std.proofs.Math.Seq.{drop-cons, take-suc}
 use Rattle.std.specs.List.{AllByRecursion, filter, list_any}
 use Rattle.list_laws.proofs.Each.{all_so, all_filter}
 use Rattle.list_laws.proofs.Lists.{any_snoc}
 use Rattle.bgp_core.specs.Solutions.{Places}
 use Rattle.row_algebra.specs.Algebra.{row_eq, once, BindsOnly}
-use Rattle.row_algebra.specs.Finding.{key_of, news, same_key, flagged, row_if}
+use Rattle.row_algebra.specs.Finding.{news, same_key, flagged, row_if}
 use Rattle.row_algebra.proofs.Keys.{key_decides}
 
 -- ---- filters

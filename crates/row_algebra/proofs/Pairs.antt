@@ -1,6 +1,6 @@
 -- Rows that are found by their places.
-use Rattle.std.proofs.Common.{Bor, ℕ, zero, suc, ◌≡◌, ◌<◌, ◌≤◌, ◌+◌, Bool, true, false, if◌then◌else◌, List, [], ◌∷◌, ◌++◌, length, get_or, take, Option, Some, None, slice_get, refl, ap, sym, subst, ◌∙◌, arith, append-nil}
-use Rattle.std.specs.List.{AllByRecursion, flat_map}
+use Rattle.std.proofs.Common.{Bor, ℕ, zero, suc, ◌≡◌, ◌<◌, ◌≤◌, ◌+◌, Bool, true, false, if◌then◌else◌, List, [], ◌∷◌, ◌++◌, length, get_or, take, Option, Some, None, slice_get, refl, ap, sym, ◌∙◌, arith}
+use Rattle.std.specs.List.{AllByRecursion}
 use Rattle.std.specs.Slice.{IsItemAt}
 use Rattle.std.proofs.lemmas.List.{flat_map_more, take_more}
 use Rattle.list_laws.proofs.Each.{all_so}
@@ -8,7 +8,7 @@ use Rattle.list_laws.proofs.Lists.{at_place}
 use Rattle.list_laws.proofs.Options.{none_not_some, some_same}
 use Rattle.bgp_core.specs.Solutions.{Places}
 use Rattle.bgp_core.specs.Merging.{MergingIsUnion}
-use Rattle.row_algebra.specs.Algebra.{merge, merges, row_eq}
+use Rattle.row_algebra.specs.Algebra.{merge, merges}
 use Rattle.row_algebra.specs.Finding.{key_of, BindsAll, places_where, has_key, merge_with, merges_at, given, combined}
 use Rattle.row_algebra.proofs.Keys.{apart}
 

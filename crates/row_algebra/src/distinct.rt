@@ -1,5 +1,5 @@
 // Rows that stand once.
-ghost use Rattle.std.specs.Prelude.{◌≡◌, ℕ, ◌++◌, [], IfOk, OnOk, length};
+ghost use Rattle.std.specs.Prelude.{◌≡◌, ℕ, ◌++◌, [], IfOk, OnOk};
 ghost use Rattle.std.specs.List.{AllByRecursion};
 ghost use Rattle.row_algebra.specs.Algebra.{HaveWidth, once, BindsOnly};
 ghost use Rattle.row_algebra.specs.Finding.{news, same_key, flagged, row_if};

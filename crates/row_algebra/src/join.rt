@@ -1,7 +1,7 @@
 // Join and LeftJoin of lists of rows.
 ghost use Rattle.std.specs.Prelude.{◌≡◌, ◌++◌, IfOk, OnOk, length};
 ghost use Rattle.std.specs.List.{AllByRecursion};
-ghost use Rattle.row_algebra.specs.Algebra.{AreAsWide, HaveWidth, joined, optional, merge, merges};
+ghost use Rattle.row_algebra.specs.Algebra.{AreAsWide, HaveWidth, joined, optional, merge};
 ghost use Rattle.row_algebra.specs.Finding.{BindsAll, IsIndexOf, merges_at, given_at, combined};
 
 use crate::index::{Bucket, index_of, places_of};

@@ -1,10 +1,14 @@
 //! Lists of rows put together as SPARQL's algebra says (SPARQL 1.1, 18.5): Join, LeftJoin and Distinct. Each row stands as
 //! often as SPARQL counts it, and the terms of rows are shared.
 //!
+//! The join of the two lists on top of a stack takes their place:
+//!
 //! ```rust
-//! let both = join_rows(alloc, &left, &right)?;
-//! let some = optional_rows(alloc, &left, &right)?;
-//! let once = distinct_rows(alloc, &names, some)?;
+//! let Some((left, right)) = top_two(stack) else {
+//!     return Ok(());
+//! };
+//! let rows = join_rows(alloc, left.as_slice(), right.as_slice())?;
+//! stack.push_front(Rows::new(rows))?;
 //! ```
 #![tactic(auto)]
 

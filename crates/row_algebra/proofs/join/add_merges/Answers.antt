@@ -1,4 +1,4 @@
-use Rattle.std.proofs.Common.{◌≡◌, ◌<◌, ◌++◌, [], List, Option, Vec, Global, length, get_or, slice_get, ap, sym, ◌∙◌, arith, append-nil}
+use Rattle.std.proofs.Common.{◌<◌, ◌++◌, Option, Vec, Global, length, get_or, ap, sym, ◌∙◌, arith, append-nil}
 use Rattle.bgp_core.specs.Solutions.{Places}
 use Rattle.row_algebra.specs.Finding.{merge_with}
 use Rattle.row_algebra.proofs.Pairs.{got, got_none, merges_more}

@@ -2,7 +2,6 @@ use Rattle.std.proofs.Common.{◌≡◌, ◌<◌, ◌++◌, List, Option, length
 use Rattle.list_laws.proofs.Each.{every_at}
 use Rattle.rdf_terms.specs.declared.term.Term.{Term}
 use Rattle.bgp_core.specs.Solutions.{Places}
-use Rattle.row_algebra.specs.Algebra.{merges}
 use Rattle.row_algebra.specs.Finding.{key_of, BindsAll, places_where, has_key, given}
 use Rattle.row_algebra.proofs.Pairs.{found, combined_more}
 use Rattle.row_algebra.proofs.join.with_index.Goals as goal
