@@ -79,30 +79,6 @@ fn greet<C: Converses, W: Accept>(
     }
 }
 
-/// Begins a turn: takes what the system knows of readiness, and asks the door.
-fn welcome<C: Converses, W: Accept>(
-    alloc: Global,
-    live: &mut Slab<Live<C>>,
-    server: &C::Server,
-    wire: &mut W,
-) -> Result<bool, ServeFault>
-    requires listens { listens (W.state wire.old) ≡ true }
-    requires few { slab_len live.old ≤ MOST_LIVE }
-    requires suits { SuitsWire C.Suits server.now (λ key. get live.old key) (W.state wire.old) }
-    ensures few { slab_len live.new ≤ MOST_LIVE }
-    ensures suits { SuitsWire C.Suits server.now (λ key. get live.new key) (W.state wire.new) }
-    ensures welcomes { IfOk result (λ accepted. Welcomes C.kind (get live.old) (get live.new) accepted
-        (slab_len live.old) (slab_len live.new) (W.state wire.old) (W.state wire.new)) }
-    ensures err { OnErr result ((key : ℕ) → get live.new key ≡ get live.old key) }
-    ensures len { OnErr result (slab_len live.new ≡ slab_len live.old) }
-    ensures fails { IfErr result (λ fault. FailsTurn fault (W.state wire.old) (W.state wire.new)) }
-    ensures alone { ServesAlone (W.state wire.old) (W.state wire.new) }
-    ensures waits { (W.state wire.new).waits ≡ (W.state wire.old).waits }
-{
-    look(wire);
-    greet(alloc, live, server, wire)
-}
-
 /// Keeps new connections for the links that wait at the door, until it gives none or `MOST_LIVE` are live.
 fn greet_all<C: Converses, W: Accept>(
     alloc: Global,
@@ -446,7 +422,8 @@ impl<C: Converses> Loop<C> {
         ensures keeps { S.Keeps supply.old supply.new }
         ensures same { (data_set : C.Server.Data) → S.may supply.new data_set ↔ S.may supply.old data_set }
     {
-        let accepted = welcome(self.alloc, &mut self.live, server, wire)?;
+        look(wire);
+        let accepted = greet(self.alloc, &mut self.live, server, wire)?;
         let turned = step_all(&mut self.live, part, &mut self.buffer, server, supply, wire);
         Ok(Turned {
             moved: accepted || turned.moved,
