@@ -1,7 +1,7 @@
 // One step of one connection.
 ghost use Rattle.std.specs.Prelude.{ℕ, ◌≡◌, ◌≢◌, ◌<◌, ◌≤◌, [], length, OnOk, Some, true, false, ◌↔◌, is_ok};
 ghost use Rattle.tpf_base.specs.Links.{WireState, Sending, Receiving};
-ghost use Rattle.tpf_base.specs.Calls.{Sends};
+ghost use Rattle.tpf_base.specs.Calls.{Closes, Sends};
 ghost use Rattle.connections.specs.Versions.{Serving, SupplyState};
 ghost use Rattle.connections.specs.Kinds.{Takes, IsOutcome};
 ghost use Rattle.serve_loop.specs.Traffic.{moment};
@@ -190,6 +190,16 @@ fn is_over<C: Converses>(connection: &C) -> bool
     connection.closing() && !connection.owes() && connection.pending().is_empty()
 }
 
+/// Closes the link of a connection that ended so, and says how.
+fn close<W: Wire>(link: u64, stepped: Stepped, wire: &mut W) -> Stepped
+    requires { ((W.state wire.old).links link).is_open ≡ true }
+    ensures stepped { result ≡ stepped }
+    ensures closes { Closes link (W.state wire.old) (W.state wire.new) }
+{
+    wire.close(link);
+    stepped
+}
+
 /// Sends what is pending. A link that fails is closed, and that of a connection that closes too, once all
 /// was sent on it.
 fn send_step<C: Converses, W: Wire>(live: &mut Live<C>, wire: &mut W) -> Stepped
@@ -211,24 +221,14 @@ fn send_step<C: Converses, W: Wire>(live: &mut Live<C>, wire: &mut W) -> Stepped
     match send_pending(live, wire) {
         Moved::Moved(_) => {
             if is_over(&live.connection) {
-                wire.close(live.link);
-                return Stepped::Ended;
+                return close(live.link, Stepped::Ended, wire);
             }
             Stepped::Moved
         }
         Moved::NotYet => Stepped::Still,
-        Moved::OutOfMemory => {
-            wire.close(live.link);
-            Stepped::Starved
-        }
-        Moved::Failed => {
-            wire.close(live.link);
-            Stepped::Ended
-        }
-        Moved::End => {
-            wire.close(live.link);
-            Stepped::Ended
-        }
+        Moved::OutOfMemory => close(live.link, Stepped::Starved, wire),
+        Moved::Failed => close(live.link, Stepped::Ended, wire),
+        Moved::End => close(live.link, Stepped::Ended, wire),
     }
 }
 
@@ -261,18 +261,9 @@ fn receive_step<C: Converses, W: Wire>(
     match receive(live, buffer, server, wire) {
         Received::Fed => Stepped::Moved,
         Received::NotYet => Stepped::Still,
-        Received::End => {
-            wire.close(live.link);
-            Stepped::Ended
-        }
-        Received::Failed => {
-            wire.close(live.link);
-            Stepped::Ended
-        }
-        Received::Starved => {
-            wire.close(live.link);
-            Stepped::Starved
-        }
+        Received::End => close(live.link, Stepped::Ended, wire),
+        Received::Failed => close(live.link, Stepped::Ended, wire),
+        Received::Starved => close(live.link, Stepped::Starved, wire),
     }
 }
 
@@ -310,15 +301,13 @@ pub fn step<C: Converses, S: Supply<C::Server>, W: Wire>(
     ensures same { (data_set : C.Server.Data) → S.may supply.new data_set ↔ S.may supply.old data_set }
 {
     if prepare(live, server, supply).is_err() {
-        wire.close(live.link);
-        return Stepped::Starved;
+        return close(live.link, Stepped::Starved, wire);
     }
     if !live.connection.pending().is_empty() {
         return send_step(live, wire);
     }
     if live.connection.closing() {
-        wire.close(live.link);
-        return Stepped::Ended;
+        return close(live.link, Stepped::Ended, wire);
     }
     receive_step(live, buffer, server, wire)
 }
