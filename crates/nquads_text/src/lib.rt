@@ -28,4 +28,4 @@ mod write;
 pub use fault::{TextFault, Why};
 pub use line::LineFault;
 pub use text::{after_end, line_end, read_all, read_line, without_lf};
-pub use write::{canonical, taken_back, write_quad};
+pub use write::{canonical, write_quad};

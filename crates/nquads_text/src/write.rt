@@ -191,9 +191,9 @@ fn push_quad(quad: &Quad, out: &mut Vec<u8>) -> Result<(), OutOfMemory>
     push_all(b" .\n", out)
 }
 
-/// Takes back what was appended since `out` had this length, where the writing failed. What it was answered stays.
+/// Takes back what was appended since `out` had this length, where the writing failed.
 #[tactic(auto, using(list_laws::proofs::Begins::cut_back))]
-pub fn taken_back(
+fn taken_back(
     written: Result<(), OutOfMemory>,
     before: usize,
     out: &mut Vec<u8>,
