@@ -1,5 +1,5 @@
 // A part of a text that is written in parts.
-ghost use Rattle.std.specs.Prelude.{◌≡◌, ◌≤◌, ◌+◌, ◌-◌, false, length, min, OnOk};
+ghost use Rattle.std.specs.Prelude.{◌≡◌, ◌≤◌, ◌+◌, ◌-◌, false, min, OnOk};
 ghost use Rattle.list_laws.specs.Begins.{Begins};
 ghost use Rattle.hydra_controls.specs.Cuts.{Cuts, cut_behind};
 

@@ -1,13 +1,10 @@
 // The parts of a page's metadata, compared.
-ghost use Rattle.std.specs.Prelude.{ℕ, ◌≡◌, ◌++◌, ◌∷◌, List, [], codes, length, true, false, IfSome, IsTrue};
-ghost use Rattle.std.specs.List.{list_all};
-ghost use Rattle.std.specs.Char.{is_ascii};
+ghost use Rattle.std.specs.Prelude.{ℕ, ◌≡◌, ◌++◌, List, codes, true, IfSome};
 ghost use Rattle.rdf_terms.specs.Canon.{canon, canonical_form};
 ghost use Rattle.tpf_base.specs.Decimals.{decimal_text};
-ghost use Rattle.template_fill.specs.Metadata.{topic_quads, form_quads, mapping_quads, count_quads, link_quads, version_quads};
+ghost use Rattle.template_fill.specs.Metadata.{topic_quads, form_quads, count_quads, link_quads, version_quads};
 ghost use Rattle.own_controls.specs.Lines.{graph_end};
 ghost use Rattle.own_controls.specs.Metadata.{graph_of, mappings};
-ghost use Rattle.own_controls.specs.Safe.{IsWeb};
 
 use crate::lines::{behind_lines, fixed, with_one, with_two};
 

@@ -1,5 +1,5 @@
 // The control triples of a page.
-ghost use Rattle.std.specs.Prelude.{ℕ, ◌≡◌, ◌↔◌, ◌≤◌, ◌<◌, ◌++◌, ◌||◌, ◌&&◌, Bool, true, false, List, length, IfOk, OnOk, IsTrue, slice_index_or};
+ghost use Rattle.std.specs.Prelude.{ℕ, ◌≡◌, ◌↔◌, ◌≤◌, ◌<◌, ◌++◌, ◌||◌, ◌&&◌, true, false, List, length, IfOk, OnOk, IsTrue, slice_index_or};
 ghost use Rattle.std.specs.List.{Contains, filter_map, list_any};
 ghost use Rattle.std.specs.List.Sorted.{IsStrictlySortedBy};
 ghost use Rattle.std.specs.Borrow.{Bor};

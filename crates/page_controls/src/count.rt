@@ -7,7 +7,7 @@ ghost use Rattle.std.specs.Str.Parse.{digits_value};
 ghost use Rattle.rdf_terms.specs.declared.term.Term.{Term};
 ghost use Rattle.rdf_terms.specs.declared.term.Quad.{Quad};
 ghost use Rattle.page_controls.specs.Vocabulary.{total_items, void_triples};
-ghost use Rattle.page_controls.specs.Controls.{is_count_text, IsNumber, IsCount, HasNoCount, HasBadCount};
+ghost use Rattle.page_controls.specs.Controls.{is_count_text, IsNumber, IsCount};
 ghost use Rattle.page_controls.specs.Outcomes.{Answers};
 ghost use Rattle.page_controls.specs.Parts.{objects_in};
 ghost use Rattle.page_controls.specs.Ranges.{length_order};

@@ -1,5 +1,5 @@
 // The variables of mappings.
-ghost use Rattle.std.specs.Prelude.{ℕ, ◌≡◌, ◌↔◌, ◌≤◌, ◌<◌, true, false, List, length, map, IfOk, option_map, slice_index_or};
+ghost use Rattle.std.specs.Prelude.{ℕ, ◌≡◌, ◌↔◌, ◌≤◌, ◌<◌, true, false, List, length, IfOk, option_map, slice_index_or};
 ghost use Rattle.std.specs.List.{Contains, filter_map};
 ghost use Rattle.std.specs.List.Sorted.{IsStrictlySortedBy};
 ghost use Rattle.page_controls.specs.Vocabulary.{mapped_variable};

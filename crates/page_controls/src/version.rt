@@ -1,7 +1,6 @@
 // The version of the data that a page tells.
-ghost use Rattle.std.specs.Prelude.{◌≡◌, List, IfOk};
+ghost use Rattle.std.specs.Prelude.{◌≡◌, IfOk};
 ghost use Rattle.std.specs.List.{list_any};
-ghost use Rattle.std.specs.Borrow.{Bor};
 ghost use Rattle.std.specs.Option.{option_copied};
 ghost use Rattle.page_controls.specs.Vocabulary.{version_info};
 ghost use Rattle.page_controls.specs.Controls.{IsVersion};

@@ -1,5 +1,5 @@
 // The table's pages, compared with fragments found the plain way.
-ghost use Rattle.std.specs.Prelude.{◌≡◌, ◌-◌, ◌<◌, ℕ, All, IfOk};
+ghost use Rattle.std.specs.Prelude.{◌≡◌, ◌-◌, ◌<◌, All, IfOk};
 ghost use Rattle.rdf_terms.specs.Triples.{IsRdfQuad};
 ghost use Rattle.triple_table.specs.Stored.{IsRange};
 ghost use Rattle.tpf_base.specs.Addresses.{IsAuthority};

@@ -1,10 +1,9 @@
 // The triples of patterns as a list, for the case that they are few.
-ghost use Rattle.std.specs.Prelude.{ℕ, ◌≡◌, ◌↔◌, ◌-◌, ◌^◌, ◌++◌, List, map, length, min, IfOk, OnOk, All};
+ghost use Rattle.std.specs.Prelude.{◌≡◌, ◌↔◌, ◌-◌, ◌^◌, length, min, IfOk, OnOk, All};
 ghost use Rattle.std.specs.List.{Contains};
 ghost use Rattle.std.specs.List.Sorted.{IsStrictlySortedBy};
 ghost use Rattle.triple_table.specs.declared.ids.IdTriple.{IdTriple};
 ghost use Rattle.triple_table.specs.Stored.{IsRange, IsIdPattern, IsIdTriple, held_terms, listed};
-ghost use Rattle.restricted_pages.specs.Pages.{triples_at};
 ghost use Rattle.restricted_pages.specs.Patterns.{AreIdsOf, Pushes, gathered, ids_in, ids_order};
 
 use std::alloc::Global;

@@ -1,6 +1,5 @@
 // A page of what rows leave of a fragment.
-ghost use Rattle.std.specs.Prelude.{◌≡◌, ◌-◌, ◌*◌, ◌<◌, ◌≤◌, ◌^◌, min, take, drop, length, All, IfOk, MatchOption};
-ghost use Rattle.std.specs.List.{filter};
+ghost use Rattle.std.specs.Prelude.{◌≡◌, ◌-◌, ◌*◌, ◌<◌, ◌≤◌, ◌^◌, min, length, All, IfOk};
 ghost use Rattle.rdf_terms.specs.Fragments.{fragment, last_page_of};
 ghost use Rattle.rdf_terms.specs.Triples.{IsDataSet};
 ghost use Rattle.triple_table.specs.Stored.{IsRange, IsRanking, IsIdPattern, held_terms, listed, triples_in};

@@ -1,8 +1,7 @@
 // What rows leave of slots, by the ids of a table.
-ghost use Rattle.std.specs.Prelude.{◌≡◌, ◌++◌, List, [], ◌∷◌, true, length, IfOk, OnOk, MatchOption, All, slice_index_or};
+ghost use Rattle.std.specs.Prelude.{◌≡◌, true, IfOk, OnOk, MatchOption};
 ghost use Rattle.std.specs.List.{AllPairs, list_any};
 ghost use Rattle.rdf_terms.specs.declared.slots.Slots.{Slots};
-ghost use Rattle.triple_table.specs.Stored.{Stored};
 ghost use Rattle.restricted_pages.specs.Patterns.{NoneStands, StandsInBoth, IsJoinedId, IsJoined, ArePatternsOf, AddsRow, fits_id, fits, differ, are_apart, order_for_slots};
 
 use rdf_terms::{Slot, Slots};

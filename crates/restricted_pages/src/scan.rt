@@ -1,9 +1,6 @@
 // The triples of a fragment that match patterns, one by one, for the case that they are many.
-ghost use Rattle.std.specs.Prelude.{◌≡◌, ◌-◌, ◌<◌, ◌≤◌, ◌^◌, List, ◌∷◌, map, take, drop, length, IfOk, OnOk, All};
-ghost use Rattle.std.specs.List.{filter};
-ghost use Rattle.rdf_terms.specs.declared.term.Term.{Term};
-ghost use Rattle.rdf_terms.specs.declared.term.Triple.{Triple};
-ghost use Rattle.triple_table.specs.Stored.{IsRange, IsRanking, IsIdPattern, IsIdTriple, held_terms, listed, triple_at, triples_in};
+ghost use Rattle.std.specs.Prelude.{◌-◌, ◌<◌, ◌^◌, length, IfOk, OnOk, All};
+ghost use Rattle.triple_table.specs.Stored.{IsRange, IsRanking, IsIdPattern, held_terms, listed, triples_in};
 ghost use Rattle.restricted_pages.specs.Patterns.{IsMatchAt, IsWalked, TakesNext};
 
 use crate::sieve::Sieve;
