@@ -4,7 +4,7 @@ use Rattle.std.proofs.lemmas.List.{take_all}
 use Rattle.bgp_core.specs.Queries.{HasPlacesFor}
 use Rattle.bgp_core.specs.Solutions.{Places, extension, rows_from}
 use Rattle.request_plan.proofs.Expanding.{other-has, block-made}
-use Rattle.request_plan.proofs.expand.add_held.Goals as goal
+use Rattle.request_plan.proofs.found.add_held.Goals as goal
 
 pub add_match-requires-in-loop-row : goal.add_match-requires-in-loop-row
 add_match-requires-in-loop-row c =

@@ -1,6 +1,6 @@
 use Rattle.std.proofs.Common.{◌<◌, length, ◌∙◌, arith}
 use Rattle.request_plan.proofs.Valid.{askable-yes, askable-no}
-use Rattle.request_plan.proofs.expand.+askable_from.Goals as goal
+use Rattle.request_plan.proofs.found.+askable_from.Goals as goal
 
 pub returns-then-instance_askable : goal.returns-then-instance_askable
 returns-then-instance_askable t c =
