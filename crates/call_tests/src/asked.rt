@@ -1,7 +1,7 @@
 // One call of a client, and what came of it.
 ghost use Rattle.std.specs.Prelude.{◌≡◌, ◌≤◌};
+ghost use Rattle.tpf_base.specs.declared.limits.TheConstants.{MOST_LINKS};
 
-use bgp_core::Query;
 use control_reader::PageFault;
 use http_wire::ReplyFault;
 use pattern_parser::parse;
@@ -9,16 +9,9 @@ use std::alloc::Global;
 use std::sync::Wait;
 use std::test::Fail;
 use template_fill::WebAddress;
-use tpf_base::{Dial, Failing, MemSink};
+use test_servers::BASE;
+use tpf_base::{Dial, Failing, MemSink, USUAL_BODY};
 use tpf_client::{BlockSize, ClientFault, Options, Report, query};
-
-/// The query of a text.
-pub fn query_of(alloc: Global, text: &str) -> Result<Query, Fail> {
-    match parse(alloc, text.as_bytes()) {
-        Ok(query) => Ok(query),
-        Err(_) => Err(Fail::new("no query")),
-    }
-}
 
 /// One page after another is asked for over four links, none twice, and one row at a time.
 pub fn default_options() -> Options
@@ -31,7 +24,7 @@ pub fn default_options() -> Options
         links: 4,
         retries: 0,
         budget: 10,
-        max_body: 16777216,
+        max_body: USUAL_BODY,
     }
 }
 
@@ -90,9 +83,13 @@ fn fault_told(alloc: Global, fault: &ClientFault) -> Result<String, Fail> {
 
 /// What a report tells, as text.
 fn report_told(alloc: Global, report: &Report) -> Result<String, Fail> {
-    let version = report.version.unwrap_or(0);
     let (requests, rows) = (report.requests, report.rows);
-    Ok(format!(in alloc; "{requests} requests, {rows} rows, version {version}")?)
+    match report.version {
+        Some(version) => {
+            Ok(format!(in alloc; "{requests} requests, {rows} rows, version {version}")?)
+        }
+        None => Ok(format!(in alloc; "{requests} requests, {rows} rows, no version")?),
+    }
 }
 
 /// What came of a call, as text.
@@ -118,7 +115,20 @@ pub struct Came {
     pub text: String,
 }
 
-/// Asks a query of the server with the base `http://localhost/data`.
+impl Came {
+    /// What came of a call that ended so, where the sink took this.
+    pub fn of(
+        alloc: Global,
+        ended: &Result<Report, ClientFault>,
+        taken: &[u8],
+    ) -> Result<Came, Fail> {
+        let told = told(alloc, ended)?;
+        let text = String::from_str(alloc, str::from_utf8(taken)?)?;
+        Ok(Came { told, text })
+    }
+}
+
+/// Asks a query of the server at [`BASE`].
 pub fn ask<R: Wait, W: Dial>(
     rt: &R,
     alloc: Global,
@@ -129,20 +139,12 @@ pub fn ask<R: Wait, W: Dial>(
 ) -> Result<Came, Fail>
     requires window { 1 ≤ options.now.window }
     requires some { 1 ≤ options.now.links }
-    requires few { options.now.links ≤ 256 }
+    requires few { options.now.links ≤ MOST_LINKS }
 {
-    ask_at(
-        rt,
-        alloc,
-        "http://localhost/data",
-        text,
-        options,
-        wire,
-        fails,
-    )
+    ask_at(rt, alloc, BASE, text, options, wire, fails)
 }
 
-/// Asks a query of the server with this base.
+/// Asks a query of the server at this address.
 pub fn ask_at<R: Wait, W: Dial>(
     rt: &R,
     alloc: Global,
@@ -154,13 +156,11 @@ pub fn ask_at<R: Wait, W: Dial>(
 ) -> Result<Came, Fail>
     requires window { 1 ≤ options.now.window }
     requires some { 1 ≤ options.now.links }
-    requires few { options.now.links ≤ 256 }
+    requires few { options.now.links ≤ MOST_LINKS }
 {
-    let asked = query_of(alloc, text)?;
+    let asked = parse(alloc, text.as_bytes())?;
     let start = WebAddress::read(alloc, base)?;
     let mut out = MemSink::new(alloc, fails);
     let ended = query(rt, alloc, &asked, &start, options, wire, &mut out);
-    let told = told(alloc, &ended)?;
-    let text = String::from_str(alloc, str::from_utf8(out.taken())?)?;
-    Ok(Came { told, text })
+    Came::of(alloc, &ended, out.taken())
 }

@@ -1,11 +1,11 @@
 // A server in one process, over a wire one of whose calls fails.
 use crate::asked::{Came, ask, default_options, same};
-use crate::servers::server_of;
 use fragment_server::{FragmentConnection, FragmentServer};
 use loop_wire::LoopWire;
 use std::alloc::Global;
 use std::sync::Wait;
 use std::test::Fail;
+use test_servers::server_of;
 use tpf_base::Failing;
 use tpf_client::Options;
 
@@ -28,7 +28,7 @@ const FROM_B: &str =
 const END: &str = "]}}\n";
 
 fn server(alloc: Global) -> Result<FragmentServer, Fail> {
-    server_of(alloc, DATA, 100)
+    Ok(FragmentServer::new(server_of(alloc, DATA, 100)?))
 }
 
 fn one_call(alloc: Global, call: u64) -> Result<Vec<u64>, Fail> {

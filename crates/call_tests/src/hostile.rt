@@ -1,5 +1,6 @@
 // Servers that say what no server should, and sinks that fail.
 ghost use Rattle.std.specs.Prelude.{◌≤◌};
+ghost use Rattle.tpf_base.specs.declared.limits.TheConstants.{MOST_LINKS};
 
 use crate::asked::{Came, ask, default_options, same};
 use crate::replies::wire_of;
@@ -36,8 +37,8 @@ const REPLIES: [(&str, &str); 19] = [
         "f7ds f7ds f7ds f7ds f7ds f7ds f7ds f7ds f7ds f7ds f7ds",
         "budget 10",
     ),
-    ("f7 f7", "2 requests, 0 rows, version 0"),
-    ("f7 f0d", "2 requests, 0 rows, version 0"),
+    ("f7 f7", "2 requests, 0 rows, no version"),
+    ("f7 f0d", "2 requests, 0 rows, no version"),
     ("f7 fx", "page count text"),
     ("f7 f17", "page count text"),
     ("f7 f7b", "page blank data"),
@@ -102,7 +103,7 @@ const FOUR: &str = "SELECT * WHERE { ?a <u:p> ?b . ?b <u:q> ?c . ?c <u:r> ?d . ?
 /// start and all four were asked for.
 fn asked_at_once<R: Wait>(rt: &R, alloc: Global, links: u32) -> Result<Came, Fail>
     requires some { 1 ≤ links }
-    requires few { links ≤ 256 }
+    requires few { links ≤ MOST_LINKS }
 {
     let options = Options {
         links,
@@ -115,7 +116,7 @@ fn asked_at_once<R: Wait>(rt: &R, alloc: Global, links: u32) -> Result<Came, Fai
 #[test]
 fn all_patterns_are_asked_for_at_once(rt: HostRuntime) -> Result<(), Fail> {
     let came = asked_at_once(&rt, rt.alloc(), 4)?;
-    same(came.told.as_str(), "5 requests, 0 rows, version 0")
+    same(came.told.as_str(), "5 requests, 0 rows, no version")
 }
 
 #[test]

@@ -1,4 +1,5 @@
-//! Tests of the client's calls: whole queries over scripts of replies, over a server in one process whose wire fails, and over several.
+//! Tests of the client's calls: whole queries over scripts of replies, over a server in one process whose wire fails, over
+//! several, and of several together.
 #![tactic(auto)]
 
 #[cfg(test)]
@@ -10,8 +11,8 @@ mod hostile;
 #[cfg(test)]
 mod replies;
 #[cfg(test)]
-mod servers;
-#[cfg(test)]
 mod several;
+#[cfg(test)]
+mod together;
 #[cfg(test)]
 mod windows;

@@ -1,12 +1,26 @@
 // Several servers in one process, each with data of its own.
 use crate::asked::{ask_at, default_options, same};
-use crate::servers::server_at;
-use fragment_server::FragmentConnection;
+use fragment_server::{FragmentConnection, FragmentServer};
 use loop_wire::{LoopWire, Several};
 use std::alloc::Global;
 use std::sync::Wait;
 use std::test::Fail;
+use test_servers::server_at;
 use tpf_base::Failing;
+
+/// A wire to servers, each at an address and with data of its own, with so many triples a page.
+pub fn wire_to(
+    alloc: Global,
+    held: &[(&str, &str)],
+    page_size: u64,
+) -> Result<LoopWire<FragmentConnection, Several>, Fail> {
+    let mut servers = Vec::new(alloc);
+    for (base, data) in held {
+        let server = server_at(alloc, base, data, page_size)?;
+        servers.push(FragmentServer::new(server))?;
+    }
+    Ok(LoopWire::to_servers(alloc, servers, 1, Failing::Never))
+}
 
 const ONE_TRIPLE: &str = "<http://e/a> <http://e/k> \"one\" .
 ";
@@ -14,14 +28,6 @@ const ONE_TRIPLE: &str = "<http://e/a> <http://e/k> \"one\" .
 const TWO_TRIPLES: &str = "<http://e/a> <http://e/k> \"two\" .
 <http://e/b> <http://e/k> \"two\" .
 ";
-
-/// A wire to a server at `a` and another at port 81 of the same host.
-fn wire_of(alloc: Global) -> Result<LoopWire<FragmentConnection, Several>, Fail> {
-    let mut servers = Vec::new(alloc);
-    servers.push(server_at(alloc, "http://a/data", ONE_TRIPLE, 100)?)?;
-    servers.push(server_at(alloc, "http://a:81/data", TWO_TRIPLES, 100)?)?;
-    Ok(LoopWire::to_servers(alloc, servers, 1, Failing::Never))
-}
 
 /// Fails where a query of the data at a base does not tell this.
 fn check<R: Wait>(
@@ -47,7 +53,11 @@ fn check<R: Wait>(
 #[test]
 fn each_server_answers_with_its_own_data(rt: HostRuntime) -> Result<(), Fail> {
     let alloc = rt.alloc();
-    let mut wire = wire_of(alloc)?;
+    let held = [
+        ("http://a/data", ONE_TRIPLE),
+        ("http://a:81/data", TWO_TRIPLES),
+    ];
+    let mut wire = wire_to(alloc, held.as_slice(), 100)?;
     let asked = [
         ("http://a:81/data", "2 requests, 2 rows, version 1"),
         ("http://a/data", "2 requests, 1 rows, version 1"),

@@ -2,45 +2,14 @@
 ghost use Rattle.std.specs.Prelude.{◌≤◌};
 
 use crate::asked::{ask, default_options, same};
-use crate::servers::server_of;
-use fragment_server::FragmentConnection;
+use fragment_server::{FragmentConnection, FragmentServer};
 use loop_wire::LoopWire;
 use std::alloc::Global;
 use std::sync::Wait;
 use std::test::Fail;
+use test_servers::{chains, server_of};
 use tpf_base::Failing;
 use tpf_client::Options;
-
-/// Adds a chain of three triples from one subject.
-fn add_chain(alloc: Global, number: u32, text: &mut String) -> Result<(), Fail> {
-    let number = number.to_string(alloc)?;
-    let n = number.as_str();
-    for part in [
-        "<http://e/a> <http://e/p> <http://e/b",
-        n,
-        "> .\n<http://e/b",
-        n,
-        "> <http://e/q> <http://e/c",
-        n,
-        "> .\n<http://e/c",
-        n,
-        "> <http://e/r> <http://e/d",
-        n,
-        "> .\n",
-    ] {
-        text.push_str(part)?;
-    }
-    Ok(())
-}
-
-/// Twenty chains of three triples from one subject.
-fn chains(alloc: Global) -> Result<String, Fail> {
-    let mut text = String::new(alloc);
-    for n in 1..21u32 {
-        add_chain(alloc, n, &mut text)?;
-    }
-    Ok(text)
-}
 
 const QUERY: &str =
     "SELECT * WHERE { <http://e/a> <http://e/p> ?x . ?x <http://e/q> ?y . ?y <http://e/r> ?z }";
@@ -50,11 +19,11 @@ fn first_with(requests: &str, text: &str) -> usize {
     requests.find(text).unwrap_or(requests.len())
 }
 
-/// A wire to a server of the chains, in pages of five.
+/// A wire to a server of twenty chains of three triples from one subject, in pages of five.
 fn wire_of(alloc: Global) -> Result<LoopWire<FragmentConnection>, Fail> {
-    let data = chains(alloc)?;
+    let data = chains(alloc, 20)?;
     let server = server_of(alloc, data.as_str(), 5)?;
-    Ok(LoopWire::new(alloc, server, 0, Failing::Never))
+    Ok(LoopWire::new(alloc, FragmentServer::new(server), 0, Failing::Never))
 }
 
 /// Whether one link was dialled, on which `c10` was asked for before `b11`.

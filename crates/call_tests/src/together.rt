@@ -1,31 +1,65 @@
-// What several servers hold together.
-use crate::asked::{Came, ask, default_options, same, starts_of};
-use crate::servers::server_at;
-use federated_query::are_apart;
+// One query of several servers together, and what they hold.
+ghost use Rattle.std.specs.Prelude.{◌≡◌};
+
+use crate::asked::{Came, default_options, same};
+use crate::several::wire_to;
+use federated_query::{are_apart, federate};
 use fragment_server::FragmentConnection;
 use loop_wire::{LoopWire, Several};
+use pattern_parser::parse;
 use std::alloc::Global;
 use std::sync::Wait;
 use std::test::Fail;
-use tpf_base::Failing;
+use template_fill::WebAddress;
+use tpf_base::{Failing, MemSink};
+use tpf_client::Options;
 
 const CHAIN: &str = "SELECT * WHERE { ?x <http://e/k> ?y . ?y <http://e/n> ?z }";
 
 const PAIRS: &str = "SELECT * WHERE { ?s <http://e/p> ?o }";
 
-/// A wire to a server at `a` and one at `b` with these data, with so many triples a page.
-fn wire_of(
-    alloc: Global,
-    first: &str,
-    second: &str,
-    page_size: u64,
-) -> Result<LoopWire<FragmentConnection, Several>, Fail> {
-    let mut servers = Vec::new(alloc);
-    servers.push(server_at(alloc, "http://a/data", first, page_size)?)?;
-    servers.push(server_at(alloc, "http://b/data", second, page_size)?)?;
-    Ok(LoopWire::to_servers(alloc, servers, 1, Failing::Never))
+/// Each page is asked for at most three times, with a budget for two servers.
+fn options_for_two() -> Options
+    ensures window { result.window ≡ 4 }
+    ensures links { result.links ≡ 4 }
+{
+    Options {
+        retries: 2,
+        budget: 30,
+        ..default_options()
+    }
 }
 
+/// The addresses that these texts are.
+fn starts_of(alloc: Global, texts: &[&str]) -> Result<Vec<WebAddress>, Fail> {
+    let mut starts = Vec::new(alloc);
+    for text in texts {
+        starts.push(WebAddress::read(alloc, text)?)?;
+    }
+    Ok(starts)
+}
+
+/// Asks a query of the servers at these addresses.
+fn ask<R: Wait>(
+    rt: &R,
+    alloc: Global,
+    text: &str,
+    addresses: &[&str],
+    wire: &mut LoopWire<FragmentConnection, Several>,
+) -> Result<Came, Fail> {
+    let asked = parse(alloc, text.as_bytes())?;
+    let starts = starts_of(alloc, addresses)?;
+    let starts = starts.as_slice();
+    if starts.is_empty() || !are_apart(starts) {
+        return Err(Fail::new("no start, or two of one authority"));
+    }
+    let options = options_for_two();
+    let mut out = MemSink::new(alloc, Failing::Never);
+    let ended = federate(rt, alloc, &asked, starts, &options, wire, &mut out);
+    Came::of(alloc, &ended, out.taken())
+}
+
+/// Asks a query of a server at `a` and one at `b` with these data, with so many triples a page.
 fn ask_both<R: Wait>(
     rt: &R,
     alloc: Global,
@@ -34,16 +68,10 @@ fn ask_both<R: Wait>(
     second: &str,
     page_size: u64,
 ) -> Result<Came, Fail> {
-    let mut wire = wire_of(alloc, first, second, page_size)?;
+    let held = [("http://a/data", first), ("http://b/data", second)];
+    let mut wire = wire_to(alloc, held.as_slice(), page_size)?;
     let addresses = ["http://a/data", "http://b/data"];
-    ask(
-        rt,
-        alloc,
-        query,
-        addresses.as_slice(),
-        &default_options(),
-        &mut wire,
-    )
+    ask(rt, alloc, query, addresses.as_slice(), &mut wire)
 }
 
 #[test]
@@ -89,16 +117,10 @@ fn a_server_that_holds_nothing_adds_no_row(rt: HostRuntime) -> Result<(), Fail> 
 fn a_server_that_cannot_be_dialled_ends_the_query(rt: HostRuntime) -> Result<(), Fail> {
     let alloc = rt.alloc();
     let data = "<http://e/s> <http://e/p> <http://e/o> .\n";
-    let mut wire = wire_of(alloc, data, data, 100)?;
+    let held = [("http://a/data", data), ("http://b/data", data)];
+    let mut wire = wire_to(alloc, held.as_slice(), 100)?;
     let addresses = ["http://a/data", "http://c/data"];
-    let came = ask(
-        &rt,
-        alloc,
-        PAIRS,
-        addresses.as_slice(),
-        &default_options(),
-        &mut wire,
-    )?;
+    let came = ask(&rt, alloc, PAIRS, addresses.as_slice(), &mut wire)?;
     same(came.told.as_str(), "exchange")?;
     same(came.text.as_str(), "")
 }
