@@ -1,7 +1,8 @@
 // The call.
-ghost use Rattle.std.specs.Prelude.{ℕ, ◌≡◌, ◌≤◌, ◌<◌, length, true, IfOk, IfErr, OnErr, None};
+ghost use Rattle.std.specs.Prelude.{ℕ, ◌≡◌, ◌<◌, length, true, IfOk, IfErr, OnErr, None};
 ghost use Rattle.tpf_base.specs.Causes.{Rose};
 ghost use Rattle.tpf_base.specs.Links.{SameAllowed};
+ghost use Rattle.tpf_client.specs.Bounds.{SuitsCalls};
 ghost use Rattle.tpf_client.specs.Calls.{most_over, WritesResult, WritesPrefix};
 ghost use Rattle.tpf_client.specs.Ended.{WritesOverEnds};
 ghost use Rattle.tpf_client.specs.Still.{SucceedsStillOver};
@@ -22,8 +23,8 @@ use tpf_base::{Dial, Sink};
 use tpf_client::{ClientFault, Options, Report, evaluate_to, laws};
 
 /// Asks the servers of several start pages one query, and writes the text of the solutions over the union of what they hold
-/// (Triple Pattern Fragments; SPARQL 1.1 Query Results JSON Format). Conditions: there is a start, and no two starts have one
-/// authority.
+/// (Triple Pattern Fragments; SPARQL 1.1 Query Results JSON Format). Conditions: there is a start, no two starts have one
+/// authority, and the options are in their ranges.
 ///
 /// The start pages are asked for first, one after another, and then each pattern that is to be matched is asked of every server.
 /// The head of the text is written once the start pages are read, then each row as it comes, and the end. At each exit every
@@ -53,9 +54,7 @@ pub fn federate<R: Wait, W: Dial, K: Sink>(
 ) -> Result<Report, ClientFault>
     requires starts { 0 < length starts.now }
     requires apart { AreApart starts.now }
-    requires window { 1 ≤ options.now.window }
-    requires some { 1 ≤ options.now.links }
-    requires few { options.now.links ≤ 256 }
+    requires bounds { SuitsCalls options.now }
     ensures whole { IfOk result (λ report. WritesResult query.now report.rows (K.state out.old).taken
         (K.state out.new).taken) }
     ensures front { OnErr result (WritesPrefix query.now (K.state out.old).taken (K.state out.new).taken) }
@@ -91,9 +90,7 @@ pub fn federate<R: Wait, W: Dial, K: Sink>(
     ensures sink { LeavesSink (K.state out.old) (K.state out.new) result }
     ensures allowed { SameAllowed (W.allows wire.old) (W.allows wire.new) }
 {
-    laws::is_lawful(wire);
-    laws::solutions_rest_on_laws();
-    laws::traffic_rests_on_laws(wire);
+    laws::calls_rest_on_laws(wire);
     laws::is_bounded(options.max_body);
     plan_laws::plans_are_read();
     plan_laws::joint_plans_are_read();

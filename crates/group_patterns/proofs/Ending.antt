@@ -1,5 +1,5 @@
 -- What a call answers, made from what its last part answers.
-use Rattle.std.proofs.Common.{ℕ, ◌≡◌, inl, inr, List, [], length, Option, refl, sym, subst, ◌∙◌, append-nil}
+use Rattle.std.proofs.Common.{ℕ, ◌≡◌, inr, List, [], length, Option, refl, sym, subst, ◌∙◌, append-nil}
 use Rattle.std.specs.Prelude.{Result, Ok, Err, OnErr}
 use Rattle.std.specs.Io.KnownBytes.{Appends}
 use Rattle.tpf_base.specs.Addresses.{Address}
@@ -15,7 +15,7 @@ use Rattle.tpf_client.specs.declared.options.Report.{Report}
 use Rattle.tpf_client.specs.declared.fault.ClientFault.{ClientFault}
 use Rattle.tpf_client.specs.declared.fault.ClientFault.TheVariants as faults
 use Rattle.tpf_client.specs.Causes.{IsLocal}
-use Rattle.group_patterns.specs.Blocks.{AsksSome, Stops, IsLacking, IsUnwritten}
+use Rattle.group_patterns.specs.Blocks.{Stops, IsLacking, IsUnwritten}
 use Rattle.group_patterns.specs.Asking.{Gathers, AsksAndWrites, AsksAndStops}
 
 pub on-err-from : {A B : Type 0} (r : Result A B) (P Q : Type 0) → OnErr r P → (P → Q) → OnErr r Q
@@ -23,9 +23,6 @@ on-err-from (Ok x) P Q p f = tt
 on-err-from (Err e) P Q p f = f p
 
 module _ (allows : List ℕ → ℕ → List ℕ → List ℕ → Type 0) (options : Options) (start : Address) (g : GroupData) (u w : WireState) (t t' : Option (List ℕ)) where
-  pub none-shown : (fault : ClientFault) → AsksSome allows options start g.names (blocks_of (group_tree g)) fault u w → t' ≡ t → AsksAndStops allows options start g fault u w t t'
-  none-shown fault a e = record { asks = a; front = inl e }
-
   pub all-shown : (report : Report) (rows given : List Places) (q : QueryData) → given ≡ rows → q ≡ shown_query g → Gathers allows options start g report rows u w → Appends t t' (result_text q given) → AsksAndWrites allows options start g report u w t t'
   all-shown report rows given q is e a b = record {
     asks = a.asks;

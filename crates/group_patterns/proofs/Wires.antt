@@ -3,7 +3,6 @@ use Rattle.std.proofs.Common.{ℕ, ◌≡◌, ◌≤◌, ◌<◌, ◌+◌, ◌-�
 use Rattle.std.proofs.lemmas.Bool.{cases_lt, true≢false}
 use Rattle.rdf_terms.specs.declared.term.Triple.{Triple}
 use Rattle.tpf_base.specs.Addresses.{Address}
-use Rattle.tpf_base.specs.Causes.{RoseBy}
 use Rattle.tpf_base.specs.Links.{Link, WireState, Nature, OpensGiven, told_by}
 use Rattle.template_fill.specs.Metadata.{Config}
 use Rattle.bgp_core.specs.declared.pattern.Pattern.{Pattern}
@@ -48,9 +47,6 @@ pub record Onward (start : Address) (spent : ℕ) (since now : WireState) : Type
 
 pub not-both : (k n : ℕ) → n ≤ k → k < n → ⊥
 not-both k n l m = omega (arith, l, m)
-
-rose-none : (n : ℕ) → n < 2 ^ 64 → RoseBy 0 n n
-rose-none n l = omega (arith, l)
 
 moves-none : (w : WireState) → MovesOn w w
 moves-none w = record { nature = refl; given = let n = w.given in omega arith; faults = let n = w.faults in omega arith; dials = let n = w.dials in omega arith }

@@ -5,6 +5,7 @@ use Rattle.tpf_base.specs.Causes.{Rose}
 use Rattle.tpf_base.specs.HttpReply as replies
 use Rattle.tpf_base.specs.HttpReply.{reply_of}
 use Rattle.tpf_base.specs.Links.{WireState}
+use Rattle.tpf_base.specs.declared.wire.TheConstants.{MOST_IDLE}
 use Rattle.tpf_base.specs.Sending.{Holds}
 use Rattle.http_wire.specs.Replies.{shown_fault}
 use Rattle.http_wire.specs.declared.message.ReplyFault.{ReplyFault}
@@ -58,10 +59,10 @@ pub record IsNoPageIn (limit : ℕ) (since now : WireState) (fault : PageFault) 
   pub ended : at_end ≡ true → Holds (now.links is_received.on.k).ended true
   pub why : Faults body is_received.address fault
 
--- What each fault shows of the wire, of what came, and of the sink: the wire's faults rose; so many waits followed one another, which is never so over a lively wire; a link was cut; a reply is refused; a body is no page; two versions differ; the budget is told whole; the sink's faults rose.
+-- What each fault shows of the wire, of what came, and of the sink: the wire's faults rose; MOST_IDLE waits followed one another, which is never so over a lively wire; a link was cut; a reply is refused; a body is no page; two versions differ; the budget is told whole; the sink's faults rose.
 abbrev pub IsGroupCause : Options → WireState → WireState → ℕ → ℕ → ClientFault → Type 0
 IsGroupCause options since now before after faults.Exchange = Rose since.faults now.faults
-IsGroupCause options since now before after faults.Stalled = (1000 ≤ now.idle) × (since.nature.lively ≡ true → ⊥)
+IsGroupCause options since now before after faults.Stalled = (MOST_IDLE ≤ now.idle) × (since.nature.lively ≡ true → ⊥)
 IsGroupCause options since now before after (faults.Cut received) = IsCutIn options.max_body since now received
 IsGroupCause options since now before after (faults.Reply fault received) = IsRefusedIn options.max_body since now fault received
 IsGroupCause options since now before after (faults.Page fault body) = IsNoPageIn options.max_body since now fault body

@@ -1,5 +1,5 @@
 -- What the blocks that were asked so far came to. It serves the proofs alone.
-use Rattle.std.specs.Prelude.{ℕ, ◌≡◌, ◌≢◌, ◌≤◌, ◌+◌, ◌-◌, ◌⊎◌, ◌++◌, List, [], ◌∷◌, length, Option, None}
+use Rattle.std.specs.Prelude.{ℕ, ◌≡◌, ◌≢◌, ◌+◌, ◌-◌, ◌⊎◌, ◌++◌, List, [], ◌∷◌, length, Option, None}
 use Rattle.std.specs.List.{AllByRecursion}
 use Rattle.tpf_base.specs.Addresses.{Address}
 use Rattle.tpf_base.specs.Causes.{counted_by}
@@ -17,12 +17,6 @@ use Rattle.tpf_client.specs.declared.fault.ClientFault.{ClientFault}
 use Rattle.tpf_client.specs.declared.fault.ClientFault.TheVariants as faults
 use Rattle.group_patterns.specs.Blocks.{BlockRows, rows_of, requests_of, version_told, TellOneVersion, with_budget, GivesRows, GivesAll, of_block, EndsBlock, AsksAll, AsksSome}
 use Rattle.group_patterns.specs.Texts.{WritesGathered, WritesGatheredFront}
-
--- what a call needs of its options
-pub record SuitsCalls (options : Options) : Type 0 where
-  pub window : 1 ≤ options.window
-  pub some : 1 ≤ options.links
-  pub few : options.links ≤ 256
 
 -- ---- the blocks of steps
 

@@ -3,8 +3,9 @@ ghost use Rattle.std.specs.Prelude.{◌≡◌, ◌≤◌, ◌⊎◌, length, [],
 ghost use Rattle.std.specs.List.{AllByRecursion};
 ghost use Rattle.tpf_base.specs.Links.{SameAllowed};
 ghost use Rattle.bgp_core.specs.Queries.{IsPatternOf};
+ghost use Rattle.tpf_client.specs.Bounds.{SuitsCalls};
 ghost use Rattle.group_patterns.specs.Blocks.{AsksSome};
-ghost use Rattle.group_patterns.specs.Asking.{SuitsCalls, no_progress, Keeps, KeepsNot, AsksBlock, BlockEnds, AsksStep, StepEnds, AsksBlocks, BlocksFit, block_in, blocks_in};
+ghost use Rattle.group_patterns.specs.Asking.{no_progress, Keeps, KeepsNot, AsksBlock, BlockEnds, AsksStep, StepEnds, AsksBlocks, BlocksFit, block_in, blocks_in};
 
 use crate::block::{collect_block, patterns_of};
 use crate::fault::of_block;

@@ -4,8 +4,9 @@ ghost use Rattle.std.specs.List.{AllByRecursion};
 ghost use Rattle.tpf_base.specs.Links.{SameAllowed};
 ghost use Rattle.bgp_core.specs.Queries.{IsPatternOf};
 ghost use Rattle.group_query.specs.Trees.{block_query};
+ghost use Rattle.tpf_client.specs.Bounds.{SuitsCalls};
 ghost use Rattle.group_patterns.specs.Blocks.{GivesRows};
-ghost use Rattle.group_patterns.specs.Asking.{SuitsCalls, CallEnds, block_in};
+ghost use Rattle.group_patterns.specs.Asking.{CallEnds, block_in};
 
 use bgp_core::{Pattern, Query, Row, copy_patterns};
 use group_query::Step;

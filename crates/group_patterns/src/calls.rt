@@ -5,10 +5,11 @@ ghost use Rattle.tpf_base.specs.Causes.{Rose};
 ghost use Rattle.tpf_base.specs.Links.{SameAllowed};
 ghost use Rattle.group_query.specs.Trees.{blocks_of, group_tree};
 ghost use Rattle.row_algebra.specs.Algebra.{HaveWidth};
+ghost use Rattle.tpf_client.specs.Bounds.{SuitsCalls};
 ghost use Rattle.tpf_client.specs.Offers.{publisher};
 ghost use Rattle.tpf_client.specs.Plans.{OverHonest, PlanFits, RisesFew, MayStill};
 ghost use Rattle.tpf_client.specs.Sinks.{LeavesSink};
-ghost use Rattle.group_patterns.specs.Asking.{SuitsCalls, AsksBlocks, PutsTogether, Gathers, AsksAndWrites, AsksAndStops};
+ghost use Rattle.group_patterns.specs.Asking.{AsksBlocks, PutsTogether, Gathers, AsksAndWrites, AsksAndStops};
 ghost use Rattle.group_patterns.specs.Blocks.{AsksSome};
 ghost use Rattle.group_patterns.specs.Ended.{EndsGroups};
 ghost use Rattle.group_patterns.specs.Plans.{group_offer};
@@ -135,7 +136,7 @@ fn write_answers<R: Wait, W: Dial, K: Sink>(
 
 /// Asks the server of a start page for what each block of a query with groups needs, block after block in the order in
 /// which they are written, puts the rows together (SPARQL 1.1, 18.5), and writes the text of the result (SPARQL 1.1 Query
-/// Results JSON Format).
+/// Results JSON Format). Condition: the options are in their ranges.
 ///
 /// Each block is asked as a query of its own, from the start page on, with what those before it left of the budget; behind
 /// the last block nothing is sent. All rows are held in memory. The requests that are reported are those of all blocks; the
@@ -167,9 +168,7 @@ pub fn answer<R: Wait, W: Dial, K: Sink>(
     wire: &mut W,
     out: &mut K,
 ) -> Result<Report, ClientFault>
-    requires window { 1 ≤ options.now.window }
-    requires some { 1 ≤ options.now.links }
-    requires few { options.now.links ≤ 256 }
+    requires bounds { SuitsCalls options.now }
     ensures whole { IfOk result (λ report. WritesGroup query.now report.rows (K.state out.old).taken
         (K.state out.new).taken) }
     ensures front { OnErr result (WritesGroupPrefix query.now (K.state out.old).taken (K.state out.new).taken) }

@@ -1,20 +1,8 @@
-// Faults as those of the whole call.
+// Faults of a block as those of the whole call.
 ghost use Rattle.std.specs.Prelude.{◌≡◌};
-ghost use Rattle.tpf_client.specs.Rows.{sink_fault};
 ghost use Rattle.group_patterns.specs.Blocks.{of_block};
 
-use tpf_base::Fault;
 use tpf_client::ClientFault;
-
-/// The fault of a sink as that of a call.
-pub(crate) fn of_sink(fault: Fault) -> ClientFault
-    ensures { result ≡ sink_fault fault }
-{
-    match fault {
-        Fault::Failed => ClientFault::Sink,
-        Fault::OutOfMemory => ClientFault::OutOfMemory,
-    }
-}
 
 /// The fault of a block's call as that of the whole call, which tells the whole budget.
 pub(crate) fn of_block(fault: ClientFault, budget: u64) -> ClientFault

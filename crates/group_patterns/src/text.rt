@@ -8,12 +8,11 @@ ghost use Rattle.tpf_client.specs.Causes.{IsLocal};
 ghost use Rattle.tpf_client.specs.Sinks.{KeepsSink, LeavesSink};
 ghost use Rattle.group_patterns.specs.Writing.{AddsRow};
 
-use crate::fault::of_sink;
 use bgp_core::{Query, Row};
 use result_json::{ResultWriter, laws};
 use std::alloc::Global;
 use tpf_base::{Fault, Sink};
-use tpf_client::{ClientFault, GATHERED};
+use tpf_client::{ClientFault, GATHERED, of_sink};
 
 /// Adds a row, and gives what is pending to the sink where that is much.
 fn add_row<'a, K: Sink>(writer: &mut ResultWriter<'a>, row: &Row, out: &mut K) -> Result<(), Fault>

@@ -3,6 +3,7 @@ use Rattle.std.proofs.Common.{ℕ, ◌≡◌, ◌<◌, ◌≤◌, ◌++◌, Bool
 use Rattle.tpf_base.specs.Causes.{Rose}
 use Rattle.tpf_base.specs.Addresses.{Address}
 use Rattle.tpf_base.specs.Links.{WireState}
+use Rattle.tpf_base.specs.declared.wire.TheConstants.{MOST_IDLE}
 use Rattle.tpf_base.specs.HttpReply as replies
 use Rattle.tpf_base.specs.HttpReply.{reply_of}
 use Rattle.std.specs.List.{Contains}
@@ -74,11 +75,11 @@ module _ (laws : Laws) (traffic : TrafficLaws) (allows : List ℕ → ℕ → Li
       let early = o.faults in
       omega (arith, c, early, same)
 
-  idle-of : (events : List PoolEvent) (p : Pooled) → EndsWith (Broke pool.Stalled) events → RunsPool allows options since now events p → AsksAt starts events → (1000 ≤ now.idle) × (since.nature.lively ≡ true → ⊥)
+  idle-of : (events : List PoolEvent) (p : Pooled) → EndsWith (Broke pool.Stalled) events → RunsPool allows options since now events p → AsksAt starts events → (MOST_IDLE ≤ now.idle) × (since.nature.lively ≡ true → ⊥)
   idle-of events p e r a =
       let x = ends events (Broke pool.Stalled) p e r a in
       let h : StepBreaks pool.Stalled x.mid p x.between r.between = x.last.happens in
-      let long : 1000 ≤ r.between.idle = traffic.causes pool.Stalled x.mid (without_fault p) x.between r.between x.given x.suits x.knows.answers h.steps in
+      let long : MOST_IDLE ≤ r.between.idle = traffic.causes pool.Stalled x.mid (without_fault p) x.between r.between x.given x.suits x.knows.answers h.steps in
       let same = r.closes.idle in
       let o = travels-onward allows events (begun options) p since r.between r.travels in
       (omega (arith, long, same), λ lively. let short = x.last.lawful.lively (ap (λ n. n.lively) o.nature ∙ lively) in omega (arith, long, short))

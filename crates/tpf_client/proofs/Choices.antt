@@ -3,18 +3,20 @@ use Rattle.std.proofs.Common.{ℕ, ◌≡◌, ◌<◌, ◌^◌, ◌++◌, List, 
 use Rattle.tpf_base.specs.Addresses.{Address}
 use Rattle.tpf_base.specs.Links.{WireState}
 use Rattle.bgp_core.specs.Queries.{QueryData}
+use Rattle.fragment_page.specs.declared.page.Page.{Page}
 use Rattle.request_pool.specs.Pools.{Pooled}
 use Rattle.tpf_client.specs.declared.options.Options.{Options}
 use Rattle.tpf_client.specs.declared.fault.ClientFault.{ClientFault}
 use Rattle.tpf_client.specs.Traffic.{PoolEvent, IsLawful}
+use Rattle.tpf_client.specs.Starts.{ReadsStarts, versions_of}
 use Rattle.tpf_client.specs.Sources.{Sources}
 use Rattle.tpf_client.specs.Offers.{Offer}
 use Rattle.tpf_client.specs.Ends.{Ends}
 use Rattle.tpf_client.specs.Honest.{Laws, WritesSolutionsFront}
 use Rattle.tpf_client.specs.Requests.{TrafficLaws, DialsAtMost, tries_of}
 use Rattle.tpf_client.specs.Calls.{RunsPool, Happened, AreThese, WritesSome, Before, Behind, AtEnd}
-use Rattle.tpf_client.specs.Choices.{OfToldChoice, FailsAlive, FailsByChoice, FailsOverOne}
-use Rattle.tpf_client.proofs.Covered.{Covered, nothing-over, front-written}
+use Rattle.tpf_client.specs.Choices.{HasTold, OfToldChoice, FailsAlive, FailsByChoice, FailsOverOne}
+use Rattle.tpf_client.proofs.Covered.{Covered, ChoiceBehind, nothing-over, front-written}
 use Rattle.tpf_client.proofs.Planned.{PlannedRun, ExplainedRun, these-run, before-explained, before-choice, before-run, some-explained, explained-run, behind-choice, end-choice}
 use Rattle.tpf_client.proofs.Exits.{dials-so, dials-choice, asks-plan}
 use Rattle.tpf_client.proofs.Requested.{requests-plan, requests-choice}
@@ -81,6 +83,22 @@ module _ (laws : Laws) (traffic : TrafficLaws) (allows : List ℕ → ℕ → Li
         subst (λ (c : offer.Choice). FailsByChoice Started offer options q fault since now t u c) k.run_over
         (fails-by fault t u k.run k.front (k.front_over ∙ sym k.run_over) k.run_is)
 
+    -- behind the start pages it is the choice that these told
+    of-later : (fault : ClientFault) (t u : Option (List ℕ)) (w : WritesSome Call sources q starts options.budget fault t u) (first later : List PoolEvent) (told : List Page) (reads : ReadsStarts starts told first) (c : ChoiceBehind sources offer q starts first later told reads)
+        → (some-explained allows sources offer options since now starts q covered h fault t u w).planned.choice ≡ c.choice → (front-written sources offer allows options since now starts q covered Call goes laws.pieces laws.goes_on options.budget fault t u w).choice ≡ c.choice
+        → (choice : offer.Choice) × HasTold offer starts (versions_of told) choice × FailsByChoice Started offer options q fault since now t u choice
+    of-later fault t u w first later told reads c run front = (
+      c.choice,
+      record { is_choice = c.is_choice; versions = c.versions; tells = c.tells; has = c.has },
+      by-known fault t u c.choice (record {
+        run = some-explained allows sources offer options since now starts q covered h fault t u w;
+        run_over = run;
+        run_is = explained-run allows sources offer options since now starts q covered h fault t u w;
+        front = front-written sources offer allows options since now starts q covered Call goes laws.pieces laws.goes_on options.budget fault t u w;
+        front_over = front;
+      }),
+    )
+
     pub of-choice : (fault : ClientFault) (t u : Option (List ℕ)) (w : WritesSome Call sources q starts options.budget fault t u)
         → OfToldChoice Call sources q starts options.budget fault t u offer w (FailsByChoice Started offer options q fault since now t u)
     unfolding front-written
@@ -93,29 +111,11 @@ module _ (laws : Laws) (traffic : TrafficLaws) (allows : List ℕ → ℕ → Li
           front_over = refl;
         })
     of-choice fault t u (Behind b) =
-        let c = covered.behind b.first b.later b.pool (goes (b.first ++ b.later) b.pool b.runs) b.asks b.told b.reads in (
-          c.choice,
-          record { is_choice = c.is_choice; versions = c.versions; tells = c.tells; has = c.has },
-          by-known fault t u c.choice (record {
-            run = some-explained allows sources offer options since now starts q covered h fault t u (Behind b);
-            run_over = behind-choice allows sources offer options since now starts q covered h fault t u b;
-            run_is = explained-run allows sources offer options since now starts q covered h fault t u (Behind b);
-            front = front-written sources offer allows options since now starts q covered Call goes laws.pieces laws.goes_on options.budget fault t u (Behind b);
-            front_over = refl;
-          }),
-        )
+        of-later fault t u (Behind b) b.first b.later b.told b.reads (covered.behind b.first b.later b.pool (goes (b.first ++ b.later) b.pool b.runs) b.asks b.told b.reads)
+        (behind-choice allows sources offer options since now starts q covered h fault t u b) refl
     of-choice fault t u (AtEnd b) =
-        let c = covered.behind b.first b.later b.pool (goes (b.first ++ b.later) b.pool b.runs) b.asks b.told b.reads in (
-          c.choice,
-          record { is_choice = c.is_choice; versions = c.versions; tells = c.tells; has = c.has },
-          by-known fault t u c.choice (record {
-            run = some-explained allows sources offer options since now starts q covered h fault t u (AtEnd b);
-            run_over = end-choice allows sources offer options since now starts q covered h fault t u b;
-            run_is = explained-run allows sources offer options since now starts q covered h fault t u (AtEnd b);
-            front = front-written sources offer allows options since now starts q covered Call goes laws.pieces laws.goes_on options.budget fault t u (AtEnd b);
-            front_over = refl;
-          }),
-        )
+        of-later fault t u (AtEnd b) b.first b.later b.told b.reads (covered.behind b.first b.later b.pool (goes (b.first ++ b.later) b.pool b.runs) b.asks b.told b.reads)
+        (end-choice allows sources offer options since now starts q covered h fault t u b) refl
 
   -- whoever may hold what is offered
   abbrev pub over-one : (ends : Ends) → ((holder : ends.Holder) → ends.AreHonest allows holder since → Covered sources (ends.offer holder) allows options since now starts q)

@@ -4,6 +4,7 @@ use Rattle.std.specs.Prelude.{Result, Ok, Err}
 use Rattle.std.specs.List.{AllByRecursion}
 use Rattle.tpf_base.specs.Addresses.{Address}
 use Rattle.tpf_base.specs.Links.{Nature, WireState}
+use Rattle.tpf_base.specs.declared.wire.TheConstants.{MOST_IDLE}
 use Rattle.request_plan.specs.Evaluations.{HasHome}
 use Rattle.bgp_core.specs.Queries.{QueryData}
 use Rattle.request_pool.specs.declared.fault.PoolFault.{PoolFault}
@@ -58,7 +59,7 @@ module _ (laws : Laws) (traffic : TrafficLaws) (allows : List ℕ → ℕ → Li
     failures : FailuresEnd since p v
 
   module _ (lively : since.nature.lively ≡ true) where
-    few-idle : (n : ℕ) (p : Pooled) (w : WireState) → Knows starts since (options.retries + 1) n p w → IsLawful allows w → w.idle < 1000
+    few-idle : (n : ℕ) (p : Pooled) (w : WireState) → Knows starts since (options.retries + 1) n p w → IsLawful allows w → w.idle < MOST_IDLE
     few-idle n p w k l = l.lively (ap (λ (x : Nature). x.lively) k.owns.gives.nature ∙ lively)
 
     step-fails : (n : ℕ) (result : Result Stepped PoolFault) (p r q : Pooled) (v w : WireState) → Taken allows (begun options) IsAt p r v w → Failing n p v → StepsTo result p q v w → StepFails result since p q w

@@ -45,6 +45,7 @@ pub mod Shutting
 pub mod Exits
 pub mod Clauses
 pub mod Ended
+pub mod Offered
 pub mod Written
 pub mod Starting
 pub mod Several

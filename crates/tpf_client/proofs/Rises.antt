@@ -5,6 +5,7 @@ use Rattle.std.specs.List.{AllByRecursion}
 use Rattle.list_laws.proofs.Each.{all_so}
 use Rattle.tpf_base.specs.Addresses.{Address}
 use Rattle.tpf_base.specs.Links.{All, Nature, WireState}
+use Rattle.tpf_base.specs.declared.wire.TheConstants.{MOST_IDLE}
 use Rattle.request_plan.specs.Evaluations.{HasHome}
 use Rattle.request_pool.specs.declared.fault.PoolFault.{PoolFault}
 use Rattle.request_pool.specs.declared.fault.Stepped.{Stepped}
@@ -51,7 +52,7 @@ module _ (laws : Laws) (traffic : TrafficLaws) (allows : List ℕ → ℕ → Li
     pub rose : FailuresRose since.faults n p v
 
   module _ (lively : since.nature.lively ≡ true) where
-    few-idle : (n : ℕ) (p : Pooled) (w : WireState) → Knows starts since (options.retries + 1) n p w → IsLawful allows w → w.idle < 1000
+    few-idle : (n : ℕ) (p : Pooled) (w : WireState) → Knows starts since (options.retries + 1) n p w → IsLawful allows w → w.idle < MOST_IDLE
     few-idle n p w k l = l.lively (ap (λ (x : Nature). x.lively) k.owns.gives.nature ∙ lively)
 
     step-rose : (n : ℕ) (result : Result Stepped PoolFault) (p r q : Pooled) (v w : WireState) → Taken allows (begun options) (IsOwn starts) p r v w → Rises n p v → StepsTo result p q v w → StepRose result since.faults n p q w

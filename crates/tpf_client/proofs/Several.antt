@@ -1,5 +1,5 @@
 -- The starts are asked for, one after another.
-use Rattle.std.proofs.Common.{ℕ, suc, ◌≡◌, ◌≤◌, ◌+◌, ◌<◌, ◌⊎◌, inl, inr, List, [], ◌∷◌, ◌++◌, map, length, take, drop, get_or, None, refl, sym, ap, ◌∙◌, append_assoc, append-nil, arith}
+use Rattle.std.proofs.Common.{ℕ, suc, ◌≡◌, ◌≤◌, ◌+◌, ◌<◌, ◌⊎◌, inl, inr, List, [], ◌∷◌, ◌++◌, map, length, take, drop, get_or, refl, sym, ap, ◌∙◌, append_assoc, append-nil, arith}
 use Rattle.std.proofs.lemmas.List.{map-append, length-map, take_more, take_all, take-append-drop}
 use Rattle.tpf_base.specs.Addresses.{Address}
 use Rattle.tpf_base.specs.Links.{WireState, SameAllowed}
@@ -7,12 +7,11 @@ use Rattle.fragment_page.specs.declared.page.Page.{Page}
 use Rattle.template_fill.specs.declared.form.Form.{Form}
 use Rattle.template_fill.specs.Authorities.{ShareAuthority}
 use Rattle.request_pool.specs.Pools.{Pooled, Ask, held}
-use Rattle.request_pool.specs.Owned.{SuitsWire}
 use Rattle.tpf_client.specs.declared.fault.ClientFault.{ClientFault}
 use Rattle.tpf_client.specs.declared.fault.ClientFault.TheVariants as faults
 use Rattle.tpf_client.specs.Traffic.{PoolEvent}
 use Rattle.tpf_client.specs.Turns.{asked_in, WaitFew}
-use Rattle.tpf_client.specs.Starts.{start_ask, ReadsStart, ReadsStarts, AsksStarts, HasStart, HasNoStart, HasStarts, HasNoStarts, forms_of}
+use Rattle.tpf_client.specs.Starts.{start_ask, ReadsStart, ReadsStarts, AsksStarts, IsAtRest, HasStart, HasNoStart, HasStarts, HasNoStarts, forms_of}
 use Rattle.tpf_client.proofs.Accounting.{asked-append}
 use Rattle.tpf_client.proofs.Few.{few-asked, few-then}
 use Rattle.tpf_client.proofs.Going.{explains-later}
@@ -55,15 +54,13 @@ reads-many [] (page ∷ pages) events h = absurd h
 reads-many (start ∷ starts) [] events h = absurd h
 reads-many (start ∷ starts) (page ∷ pages) events h = ap (λ (n : ℕ). suc n) (reads-many starts pages h.1 h.4)
 
-pub starts-none : (allows : List ℕ → ℕ → List ℕ → List ℕ → Type 0) (p : Pooled) (v : WireState) → held p ≡ [] → p.fault ≡ None → SuitsWire p v → HasStarts allows [] [] p p v v
-starts-none allows p v none f s = record {
+pub starts-none : (allows : List ℕ → ℕ → List ℕ → List ℕ → Type 0) (p : Pooled) (v : WireState) → IsAtRest p v → HasStarts allows [] [] p p v v
+starts-none allows p v r = record {
   events = [];
   travels = no-events allows p v;
   reads = refl;
-  few = few-none (length (held p)) (none-many p none);
-  none = none;
-  no_fault = f;
-  suits = s;
+  few = few-none (length (held p)) (none-many p r.none);
+  rest = r;
 }
 
 module _ (allows later : List ℕ → ℕ → List ℕ → List ℕ → Type 0) (same : SameAllowed allows later) (starts : List Address) (pages : List Page) (p q r : Pooled) (u v w : WireState) (f : HasStarts allows starts pages p q u v) where
@@ -72,10 +69,8 @@ module _ (allows later : List ℕ → ℕ → List ℕ → List ℕ → Type 0) 
     events = f.events ++ s.events;
     travels = travels-then allows f.events s.events p q r u v w f.travels (travels-allowed allows later s.events q r v w same s.travels);
     reads = reads-more starts pages start page f.events s.events f.reads (record { asked = s.asked_are; reply = s.reply; last = s.last; taken = s.taken; home = home; pages = s.pages });
-    few = few-then allows 1 f.events s.events p q u v f.travels f.no_fault f.few (few-start q s.events f.none (one-many (asked_in s.events) (start_ask start) s.asked_are));
-    none = s.none;
-    no_fault = s.no_fault;
-    suits = s.suits;
+    few = few-then allows 1 f.events s.events p q u v f.travels f.rest.no_fault f.few (few-start q s.events f.rest.none (one-many (asked_in s.events) (start_ask start) s.asked_are));
+    rest = s.rest;
   }
 
   asked-fail : (start : Address) (more all : List Address) (events : List PoolEvent) → all ≡ starts ++ start ∷ more → (asked_in events ≡ start_ask start ∷ []) ⊎ (asked_in events ≡ []) → AsksStarts all (f.events ++ events)
@@ -99,7 +94,7 @@ module _ (allows later : List ℕ → ℕ → List ℕ → List ℕ → Type 0) 
     travels = travels-then allows f.events s.events p q r u v w f.travels (travels-allowed allows later s.events q r v w same s.travels);
     explains = λ versions. explains-later versions budget fault f.events s.events (s.explains versions);
     asked = asked-fail start more all s.events e s.asked_are;
-    few = few-then allows 1 f.events s.events p q u v f.travels f.no_fault f.few (few-start q s.events f.none (some-many (asked_in s.events) (start_ask start) s.asked_are));
+    few = few-then allows 1 f.events s.events p q u v f.travels f.rest.no_fault f.few (few-start q s.events f.rest.none (some-many (asked_in s.events) (start_ask start) s.asked_are));
     suits = s.suits;
   }
 
@@ -111,7 +106,7 @@ starts-lacking allows starts pages more all budget p q u v e f = record {
   explains = λ versions. tt;
   asked = record { first = starts; later = more; starts_are = e; asked = asked-starts starts pages f.events f.reads };
   few = f.few;
-  suits = f.suits;
+  suits = f.rest.suits;
 }
 
 -- ---- the starts by their places

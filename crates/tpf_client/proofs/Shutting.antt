@@ -13,6 +13,7 @@ use Rattle.tpf_client.specs.declared.options.Options.{Options}
 use Rattle.tpf_client.specs.declared.options.Report.{Report}
 use Rattle.tpf_client.specs.declared.fault.ClientFault.{ClientFault}
 use Rattle.tpf_client.specs.Traffic.{PoolEvent, Travels}
+use Rattle.tpf_client.specs.Starts.{IsAtRest}
 use Rattle.tpf_client.specs.Sources.{Sources}
 use Rattle.tpf_client.specs.Shown.{ShowsGiven, WritesShown}
 use Rattle.tpf_client.specs.Turns.{AsksAt, WaitFew}
@@ -147,6 +148,6 @@ module _ (allows : List ℕ → ℕ → List ℕ → List ℕ → Type 0) (optio
   ended-once (Ok x) P S ok err f g = let o = f x ok in record { happened = o.0; few = o.1; ok = o.2; err = tt }
   ended-once (Err e) P S ok err f g = let o = g e err in record { happened = o.0; few = o.1; ok = tt; err = o.2 }
 
--- a pool that holds nothing suits every wire
-pub suits-empty : (options : Options) (p : Pooled) (w : WireState) → p ≡ empty_pool options.links options.retries options.budget options.max_body → SuitsWire p w
-suits-empty options p w e = subst (λ (x : Pooled). SuitsWire x w) (sym e) (record { polled = tt; due = tt; owned = λ k. omega arith })
+-- a pool that holds nothing is at rest over every wire
+pub rest-empty : (options : Options) (p : Pooled) (w : WireState) → p ≡ empty_pool options.links options.retries options.budget options.max_body → IsAtRest p w
+rest-empty options p w e = subst (λ (x : Pooled). IsAtRest x w) (sym e) (record { none = refl; no_fault = refl; suits = record { polled = tt; due = tt; owned = λ k. omega arith } })

@@ -1,5 +1,5 @@
 -- What is left of a sink, one part of a call after another.
-use Rattle.std.proofs.Common.{ℕ, ◌≡◌, ◌≤◌, ◌++◌, ◌∙◌, List, refl, sym, ap, subst, append_assoc, arith}
+use Rattle.std.proofs.Common.{ℕ, ◌≡◌, ◌≤◌, ◌∙◌, List, refl, sym, ap, subst, arith}
 use Rattle.std.specs.Prelude.{Result, Ok, Err, OnOk, IsErrOf}
 use Rattle.tpf_base.specs.Causes.{Rose, HasCause, DoesNotFail}
 use Rattle.tpf_base.specs.Wrote.{SinkState, WritesWhole}
@@ -49,28 +49,6 @@ leaves-stays a b x l = record { faults = l.success; faultless = l.faultless }
 
 pub writes-keeps : {T : Type 0} (piece : List ℕ) (a b : SinkState) (r : Result T Fault) → WritesWhole piece a b r → KeepsSink a b r
 writes-keeps piece a b r w = record { cause = w.cause; faultless = w.faultless; spared = w.spared }
-
--- so many bytes, of which the sink was to take more
-pub writes-as : {T : Type 0} (p q : List ℕ) (a b : SinkState) (r : Result T Fault) → p ≡ q → WritesWhole p a b r → WritesWhole q a b r
-writes-as p q a b r e w = subst (λ (l : List ℕ). WritesWhole l a b r) e w
-
-pub writes-part : {T : Type 0} (p more : List ℕ) (a b : SinkState) (f : Fault) → WritesWhole {T = T} p a b (Err f) → WritesWhole {T = T} (p ++ more) a b (Err f)
-writes-part p more a b f w = let e = w.err in record {
-  ok = tt;
-  err = record { front = e.front; rest = e.rest ++ more; whole = ap (λ (l : List ℕ). l ++ more) e.whole ∙ append_assoc e.front e.rest more; bytes = e.bytes };
-  cause = w.cause;
-  faultless = w.faultless;
-  spared = w.spared;
-}
-
-pub writes-lacking : {T : Type 0} (p more : List ℕ) (a b : SinkState) (x : T) → WritesWhole p a b (Ok x) → WritesWhole {T = T} (p ++ more) a b (Err failures.OutOfMemory)
-writes-lacking p more a b x w = record {
-  ok = tt;
-  err = record { front = p; rest = more; whole = refl; bytes = w.ok };
-  cause = record { later = w.cause.later; success = tt; failed = λ e. absurd (lacking-no-fail e); memory = λ e. w.cause.success };
-  faultless = w.faultless;
-  spared = λ h. let d = w.spared h in record { same = d.same; answer = λ e. cc };
-}
 
 pub keeps-behind : {T : Type 0} (a b c : SinkState) (r : Result T Fault) → StaysSink a b → KeepsSink b c r → KeepsSink a c r
 keeps-behind a b c r s k = record {

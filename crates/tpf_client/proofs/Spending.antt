@@ -1,5 +1,5 @@
 -- What was spent where a call ended for its budget, and where it gave its rows.
-use Rattle.std.proofs.Common.{ℕ, ◌≡◌, ◌≢◌, ◌≤◌, ◌<◌, ◌+◌, ◌-◌, ◌*◌, List, [], ◌∷◌, map, length, count_by, Option, None, refl, sym, ap, subst, ◌∙◌, arith}
+use Rattle.std.proofs.Common.{ℕ, ◌≡◌, ◌≢◌, ◌≤◌, ◌<◌, ◌+◌, ◌-◌, ◌*◌, List, [], ◌∷◌, map, length, count_by, Option, Some, None, refl, sym, ap, subst, ◌∙◌, arith}
 use Rattle.std.proofs.Math.Nat.{mul-le-mul_left}
 use Rattle.std.specs.Prelude.{Result, Ok, Err}
 use Rattle.std.proofs.lemmas.List.{length-map}
@@ -22,7 +22,7 @@ use Rattle.tpf_client.specs.declared.options.Report.{Report}
 use Rattle.tpf_client.specs.declared.fault.ClientFault.{ClientFault}
 use Rattle.tpf_client.specs.declared.fault.ClientFault.TheVariants as faults
 use Rattle.tpf_client.specs.Traffic.{PoolEvent, Broke, EndsWith, IsLawful, without_fault, StepBreaks}
-use Rattle.tpf_client.specs.Causes.{Explains, Versions}
+use Rattle.tpf_client.specs.Causes.{Explains}
 use Rattle.tpf_client.specs.Turns.{AsksAt, asked_in, address_of}
 use Rattle.tpf_client.specs.Calls.{Returns, WritesSome, RunsPool, Happened, AreThese}
 use Rattle.tpf_client.specs.Sources.{Sources}
@@ -196,37 +196,30 @@ module _ (laws : Laws) (traffic : TrafficLaws) (allows : List ℕ → ℕ → Li
 
   -- ---- of a call
 
-  spends-requests : (fault : ClientFault) (versions : Versions) (events : List PoolEvent) (p : Pooled) → Explains versions options.budget fault events → RunsPool allows options since now events p → AsksAt starts events → ForBudget (SpendsRequests options since now) fault
-  spends-requests faults.Exchange versions events p e r a = tt
-  spends-requests faults.Stalled versions events p e r a = tt
-  spends-requests (faults.Cut received) versions events p e r a = tt
-  spends-requests (faults.Reply fault received) versions events p e r a = tt
-  spends-requests (faults.Page fault body) versions events p e r a = tt
-  spends-requests (faults.Changed first other) versions events p e r a = tt
-  spends-requests (faults.Budget n) versions events p e r a = requests-of events p e.1 r a
-  spends-requests faults.Sink versions events p e r a = tt
-  spends-requests faults.OutOfMemory versions events p e r a = tt
-
-  spends-tries : (fault : ClientFault) (versions : Versions) (events : List PoolEvent) (p : Pooled) → Explains versions options.budget fault events → RunsPool allows options since now events p → AsksAt starts events → ForBudget (SpendsTries options events p) fault
-  spends-tries faults.Exchange versions events p e r a = tt
-  spends-tries faults.Stalled versions events p e r a = tt
-  spends-tries (faults.Cut received) versions events p e r a = tt
-  spends-tries (faults.Reply fault received) versions events p e r a = tt
-  spends-tries (faults.Page fault body) versions events p e r a = tt
-  spends-tries (faults.Changed first other) versions events p e r a = tt
-  spends-tries (faults.Budget n) versions events p e r a = tries-of events p e.1 r a
-  spends-tries faults.Sink versions events p e r a = tt
-  spends-tries faults.OutOfMemory versions events p e r a = tt
+  -- what is to be shown of the fault of a budget alone
+  for-budget : (P : Type 0) (fault : ClientFault) → ((n : ℕ) → fault ≡ faults.Budget n → P) → ForBudget P fault
+  for-budget P faults.Exchange f = tt
+  for-budget P faults.Stalled f = tt
+  for-budget P (faults.Cut received) f = tt
+  for-budget P (faults.Reply fault received) f = tt
+  for-budget P (faults.Page fault body) f = tt
+  for-budget P (faults.Changed first other) f = tt
+  for-budget P (faults.Budget n) f = f n refl
+  for-budget P faults.Sink f = tt
+  for-budget P faults.OutOfMemory f = tt
 
   module _ (h : Happened allows options starts since now) (sources : Sources) (q : QueryData) (fault : ClientFault) (t u : Option (List ℕ)) (w : WritesSome (AreThese h.events h.pool) sources q starts options.budget fault t u) where
     caused : CausedBy options.budget fault h.events
     caused = some-caused starts h.events h.pool sources q options.budget fault t u w
 
+    of-budget : (n : ℕ) → fault ≡ faults.Budget n → Explains caused.versions options.budget (faults.Budget n) h.events
+    of-budget n is = subst (λ (f : ClientFault). Explains caused.versions options.budget f h.events) is caused.explains
+
     pub fault-requests : ForBudget (SpendsRequests options since now) fault
-    fault-requests = spends-requests fault caused.versions h.events h.pool caused.explains h.runs h.asks
+    fault-requests = for-budget (SpendsRequests options since now) fault (λ n is. requests-of h.events h.pool (of-budget n is).1 h.runs h.asks)
 
     pub fault-tries : ForBudget (SpendsTries options h.events h.pool) fault
-    fault-tries = spends-tries fault caused.versions h.events h.pool caused.explains h.runs h.asks
+    fault-tries = for-budget (SpendsTries options h.events h.pool) fault (λ n is. tries-of h.events h.pool (of-budget n is).1 h.runs h.asks)
 
   -- ---- over an offer
 
@@ -234,28 +227,21 @@ module _ (laws : Laws) (traffic : TrafficLaws) (allows : List ℕ → ℕ → Li
     abbrev Run : ClientFault → Type 0
     Run fault = ExplainedRun allows offer options since now starts fault
 
-    plan-tries : (n : ℕ) → (x : Run (faults.Budget n)) → options.budget < tries_of options (offer.addresses x.planned.choice)
-    plan-tries n x =
+    plan-tries : (fault : ClientFault) (x : Run fault) (n : ℕ) → fault ≡ faults.Budget n → options.budget < tries_of options (offer.addresses x.planned.choice)
+    plan-tries fault x n is =
         let run = x.planned.run in
         let choice = x.planned.choice in
-        let low : options.budget < (options.retries + 1) * length (asked_in run.events) = few-tries run.events run.pool x.explains.1 run.runs run.asks in
+        let spent : Explains (λ address. Some (x.versions address)) options.budget (faults.Budget n) run.events = subst (λ (f : ClientFault). Explains (λ address. Some (x.versions address)) options.budget f run.events) is x.explains in
+        let low : options.budget < (options.retries + 1) * length (asked_in run.events) = few-tries run.events run.pool spent.1 run.runs run.asks in
         let times = mul-le-mul_left (options.retries + 1) (few-asked offer (asked_in run.events) choice x.planned.of_plan) in
         less-than options.budget ((options.retries + 1) * length (asked_in run.events)) (tries_of options (offer.addresses choice)) low times
 
     plan-of : (n : ℕ) → Run (faults.Budget n) → SpendsPlan offer options
-    plan-of n x = record { choice = x.planned.choice; is_choice = x.planned.of_plan.is_choice; tries = plan-tries n x }
+    plan-of n x = record { choice = x.planned.choice; is_choice = x.planned.of_plan.is_choice; tries = plan-tries (faults.Budget n) x n refl }
 
     -- it is less than the tries of the choice of the run
     pub spent-over : (fault : ClientFault) (x : Run fault) → ForBudget (options.budget < tries_of options (offer.addresses x.planned.choice)) fault
-    spent-over faults.Exchange x = tt
-    spent-over faults.Stalled x = tt
-    spent-over (faults.Cut received) x = tt
-    spent-over (faults.Reply fault received) x = tt
-    spent-over (faults.Page fault body) x = tt
-    spent-over (faults.Changed first other) x = tt
-    spent-over (faults.Budget n) x = plan-tries n x
-    spent-over faults.Sink x = tt
-    spent-over faults.OutOfMemory x = tt
+    spent-over fault x = for-budget (options.budget < tries_of options (offer.addresses x.planned.choice)) fault (λ n is. plan-tries fault x n is)
 
     pub plan-spent : (fault : ClientFault) → Run fault → ForBudget (SpendsPlan offer options) fault
     plan-spent faults.Exchange x = tt

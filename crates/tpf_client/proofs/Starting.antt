@@ -72,9 +72,7 @@ module _ (allows : List ℕ → ℕ → List ℕ → List ℕ → Type 0) (start
         asked_are = asked-last h.before (Came (ask_of arrived) arrived.reply) h.waits refl;
         taken = subst (λ (x : Address). Takes arrived.reply.body x page) (ap (λ (a : Ask). a.address) is.0) r;
         pages = pages-then (λ address. page.version) h.before (Came (ask_of arrived) arrived.reply ∷ []) (pages-waits (λ address. page.version) h.before h.waits) ((page, r, refl), tt);
-        none = is.1;
-        no_fault = h.no_fault;
-        suits = h.suits;
+        rest = record { none = is.1; no_fault = h.no_fault; suits = h.suits };
       }
   start-read (Err fault) arrived h r one = record {
     events = h.before ++ Came (ask_of arrived) arrived.reply ∷ [];
@@ -124,9 +122,7 @@ module _ (allows : List ℕ → ℕ → List ℕ → List ℕ → Type 0) (start
     taken = k.taken;
     pages = (tt, k.pages);
     asked_are = ap (λ (l : List Ask). start_ask start ∷ l) k.asked_are;
-    none = k.none;
-    no_fault = k.no_fault;
-    suits = k.suits;
+    rest = k.rest;
   }
   starts-put (Err fault) h s l k = record {
     events = Asked (start_ask start) ∷ [] ++ k.events;

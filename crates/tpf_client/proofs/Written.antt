@@ -25,7 +25,7 @@ use Rattle.tpf_client.specs.Told.{told_at}
 use Rattle.tpf_client.specs.Sources.{Sources}
 use Rattle.tpf_client.specs.Shown.{ShowsRest, ShowsGiven, WritesShown}
 use Rattle.tpf_client.specs.Turns.{AsksAt, WaitFew}
-use Rattle.tpf_client.specs.Starts.{HasStarts, HasNoStarts, TellsStarts, forms_of, versions_of}
+use Rattle.tpf_client.specs.Starts.{HasStarts, HasNoStarts, TellsStarts, StandsBehind, forms_of, versions_of}
 use Rattle.tpf_client.specs.Calls.{Ran, most_over, Returns, WritesAll, WritesSome, WritesRest, WritesLess, PartOf, WholeOf, GathersRest, Before, Behind, AtEnd, WritesResult, WritesPrefix, JoinsSome}
 use Rattle.tpf_client.proofs.Homes.{asks-behind, starts-home}
 use Rattle.tpf_client.proofs.Few.{few-more, few-then}
@@ -36,7 +36,7 @@ use Rattle.tpf_client.proofs.Texts.{same-written, nothing-written, rows-more}
 -- ---- what the start pages told
 
 module _ (allows : List ℕ → ℕ → List ℕ → List ℕ → Type 0) (starts : List Address) (pages : List Page) (told : StartPages) (old new : Pooled) (wire wire' : WireState) (t : TellsStarts told pages) (s : HasStarts allows starts pages old new wire wire') where
-  pub forms-told : FormsAtHome starts told.forms
+  forms-told : FormsAtHome starts told.forms
   forms-told = subst (λ (l : List Form). FormsAtHome starts l) (sym t.forms) (starts-home starts pages s.events s.reads)
 
   as-many : (n m k : ℕ) → 0 < n → m ≡ n → k ≡ m → 0 < k
@@ -45,11 +45,13 @@ module _ (allows : List ℕ → ℕ → List ℕ → List ℕ → Type 0) (start
   pub forms-many : length told.forms ≡ length starts
   forms-many = ap (λ (l : List Form). length l) t.forms ∙ (length-map pages (λ page. page.form) ∙ reads-many starts pages s.events s.reads)
 
-  pub some-forms : 0 < length starts → 0 < length told.forms
-  some-forms some = as-many (length starts) (length starts) (length told.forms) some refl forms-many
-
-  pub some-versions : 0 < length starts → 0 < length told.versions.items
-  some-versions some = as-many (length starts) (length pages) (length told.versions.items) some (reads-many starts pages s.events s.reads) (ap (λ (l : List (Option ℕ)). length l) t.versions ∙ length-map pages (λ page. page.version))
+  pub stands-behind : 0 < length starts → StandsBehind starts told new wire'
+  stands-behind some = record {
+    home = forms-told;
+    some = as-many (length starts) (length starts) (length told.forms) some refl forms-many;
+    told = as-many (length starts) (length pages) (length told.versions.items) some (reads-many starts pages s.events s.reads) (ap (λ (l : List (Option ℕ)). length l) t.versions ∙ length-map pages (λ page. page.version));
+    rest = s.rest;
+  }
 
 -- ---- the start pages, and what stands behind them
 
@@ -65,7 +67,7 @@ module _ (allows between-allows : List ℕ → ℕ → List ℕ → List ℕ →
   few-of : (later : List PoolEvent) → WaitFew behind (length (held mid)) later → WaitFew most (length (held old)) (s.events ++ later)
   few-of later few =
       let n = length q.patterns * (options.window * length starts) in
-      few-then allows most s.events later old mid wire between s.travels s.no_fault (few-more 1 most (length (held old)) s.events (le-max_left 1 n) s.few)
+      few-then allows most s.events later old mid wire between s.travels s.rest.no_fault (few-more 1 most (length (held old)) s.events (le-max_left 1 n) s.few)
       (few-more n most (length (held mid)) later (le-max_right 1 n)
       (subst (λ (m : ℕ). WaitFew (length q.patterns * (options.window * m)) (length (held mid)) later) (forms-many allows starts pages told old mid wire between t s) few))
 

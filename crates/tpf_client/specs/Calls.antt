@@ -5,6 +5,7 @@ use Rattle.std.specs.List.{All, Contains}
 use Rattle.tpf_base.specs.Addresses.{Address}
 use Rattle.tpf_base.specs.Causes.{Rose, counted_by}
 use Rattle.tpf_base.specs.Links.{WireState}
+use Rattle.tpf_base.specs.declared.wire.TheConstants.{MOST_IDLE}
 use Rattle.tpf_base.specs.Wrote.{AppendsPrefix}
 use Rattle.template_fill.specs.declared.form.Form.{Form}
 use Rattle.tpf_base.specs.HttpReply as replies
@@ -129,8 +130,8 @@ pub record EndsBefore (ran : List PoolEvent → Pooled → Type 0) (starts : Lis
   pub explains : (versions : Versions) → Explains versions budget fault events
   pub nothing : taken' ≡ taken
 
--- A call that ended with a fault behind the start pages: of what stands in front of the rows and of the rows that it gave a front was written.
-pub record EndsBehind (ran : List PoolEvent → Pooled → Type 0) (sources : Sources) (q : QueryData) (starts : List Address) (budget : ℕ) (fault : ClientFault) (taken taken' : Option (List ℕ)) : Type 0 where
+-- A call that ended with a fault behind the start pages. Each source for which the pages that came there are true has these rows, as far as is said here, and this was written of them.
+pub record EndsGiving (ran : List PoolEvent → Pooled → Type 0) (sources : Sources) (starts : List Address) (budget : ℕ) (fault : ClientFault) (Has : sources.Source → List Places → List PoolEvent → Type 0) (Writes : List Places → Type 0) : Type 0 where
   pub first : List PoolEvent
   pub later : List PoolEvent
   pub pool : Pooled
@@ -140,22 +141,18 @@ pub record EndsBehind (ran : List PoolEvent → Pooled → Type 0) (sources : So
   pub asks : AsksAt starts (first ++ later)
   pub explains : Explains (told_at starts (versions_of told)) budget fault later
   pub rows : List Places
-  pub gives : (source : sources.Source) → IsSourceOf sources source (forms_of told) (told_at starts (versions_of told)) later → GivesSome sources source q rows later
-  pub text : AppendsPrefix taken taken' (front_text q ++ rows_text q false rows)
+  pub gives : (source : sources.Source) → IsSourceOf sources source (forms_of told) (told_at starts (versions_of told)) later → Has source rows later
+  pub text : Writes rows
 
--- A call that gave all its rows and could not write the text to its end.
-pub record EndsAtEnd (ran : List PoolEvent → Pooled → Type 0) (sources : Sources) (q : QueryData) (starts : List Address) (budget : ℕ) (fault : ClientFault) (taken taken' : Option (List ℕ)) : Type 0 where
-  pub first : List PoolEvent
-  pub later : List PoolEvent
-  pub pool : Pooled
-  pub runs : ran (first ++ later) pool
-  pub told : List Page
-  pub reads : ReadsStarts starts told first
-  pub asks : AsksAt starts (first ++ later)
-  pub explains : Explains (told_at starts (versions_of told)) budget fault later
-  pub rows : List Places
-  pub gives : (source : sources.Source) → IsSourceOf sources source (forms_of told) (told_at starts (versions_of told)) later → GivesSolutions sources source q rows later
-  pub text : AppendsPrefix taken taken' (result_text q rows)
+-- It gave some of its rows: of what stands in front of the rows and of these rows a front was written.
+abbrev pub EndsBehind : (ran : List PoolEvent → Pooled → Type 0) (sources : Sources) (q : QueryData) (starts : List Address) (budget : ℕ) (fault : ClientFault) (taken taken' : Option (List ℕ)) → Type 0
+EndsBehind ran sources q starts budget fault taken taken' =
+    EndsGiving ran sources starts budget fault (λ source rows later. GivesSome sources source q rows later) (λ rows. AppendsPrefix taken taken' (front_text q ++ rows_text q false rows))
+
+-- It gave all its rows, and could not write the text to its end.
+abbrev pub EndsAtEnd : (ran : List PoolEvent → Pooled → Type 0) (sources : Sources) (q : QueryData) (starts : List Address) (budget : ℕ) (fault : ClientFault) (taken taken' : Option (List ℕ)) → Type 0
+EndsAtEnd ran sources q starts budget fault taken taken' =
+    EndsGiving ran sources starts budget fault (λ source rows later. GivesSolutions sources source q rows later) (λ rows. AppendsPrefix taken taken' (result_text q rows))
 
 pub data WritesSome (ran : List PoolEvent → Pooled → Type 0) (sources : Sources) (q : QueryData) (starts : List Address) (budget : ℕ) (fault : ClientFault) (taken taken' : Option (List ℕ)) : Type 0 where
   Before : EndsBefore ran starts budget fault taken taken' → WritesSome ran sources q starts budget fault taken taken'
@@ -254,10 +251,10 @@ pub record IsOtherVersion (options : Options) (events : List PoolEvent) (since n
   pub version : page.version ≡ other
   pub differs : first ≢ other
 
--- What each fault shows of the wire and of what came: the faults rose; so many waits followed one another, which is never so over a lively wire; a link was cut; a reply is refused; a body is no page; a page tells another version; as many exchanges were started as the budget says.
+-- What each fault shows of the wire and of what came: the faults rose; MOST_IDLE waits followed one another, which is never so over a lively wire; a link was cut; a reply is refused; a body is no page; a page tells another version; as many exchanges were started as the budget says.
 abbrev pub IsCause : Options → List PoolEvent → Pooled → WireState → WireState → ClientFault → Type 0
 IsCause options events pool since now faults.Exchange = Rose since.faults now.faults
-IsCause options events pool since now faults.Stalled = (1000 ≤ now.idle) × (since.nature.lively ≡ true → ⊥)
+IsCause options events pool since now faults.Stalled = (MOST_IDLE ≤ now.idle) × (since.nature.lively ≡ true → ⊥)
 IsCause options events pool since now (faults.Cut received) = IsCutShort options events since now received
 IsCause options events pool since now (faults.Reply fault received) = IsRefusedReply options events since now fault received
 IsCause options events pool since now (faults.Page fault body) = IsNoPageOf options events since now fault body

@@ -17,7 +17,7 @@ pub record Ends : Type 1 where
 abbrev pub OverEnds : (ends : Ends) → (List ℕ → ℕ → List ℕ → List ℕ → Type 0) → WireState → (ends.Holder → Type 0) → Type 0
 OverEnds ends allows since holds = (holder : ends.Holder) → ends.AreHonest allows holder since → holds holder
 
--- and on which never 1000 waits follow one another
+-- and on which never MOST_IDLE waits follow one another
 abbrev pub OverLivelyEnds : (ends : Ends) → (List ℕ → ℕ → List ℕ → List ℕ → Type 0) → WireState → (ends.Holder → Type 0) → Type 0
 OverLivelyEnds ends allows since holds = (holder : ends.Holder) → ends.AreHonest allows holder since → since.nature.lively ≡ true → holds holder
 

@@ -6,6 +6,7 @@ pub mod Sinks
 pub mod RowLaws
 pub mod Told
 pub mod Turns
+pub mod Bounds
 pub mod Starts
 pub mod Sources
 pub mod Calls

@@ -127,17 +127,3 @@ servers_offer publishers q starts = record {
   StandsAt = StandsAmong publishers starts;
   HasVersion = HasAmong starts;
 }
-
--- ---- offers together
-
--- Two offers, such as those of two blocks of one query. A choice is one of each, which a report tells of both; all addresses of the first are asked for, and all of the second. Which rows these are together is for the caller to say.
-abbrev pub both_offers : (one two : Offer) → (one.Choice → two.Choice → List Places) → Offer
-both_offers one two rows = record {
-  Choice = one.Choice × two.Choice;
-  IsChoice = λ both. one.IsChoice both.0 × two.IsChoice both.1;
-  IsReported = λ both reported. one.IsReported both.0 reported × two.IsReported both.1 reported;
-  rows = λ both. rows both.0 both.1;
-  addresses = λ both. one.addresses both.0 ++ two.addresses both.1;
-  StandsAt = λ address server. one.StandsAt address server ⊎ two.StandsAt address server;
-  HasVersion = λ both address told. one.HasVersion both.0 address told ⊎ two.HasVersion both.1 address told;
-}

@@ -6,7 +6,7 @@ use Rattle.rdf_terms.specs.declared.term.Triple.{Triple}
 use Rattle.rdf_terms.specs.Selections.{Selection, selected_last}
 use Rattle.tpf_base.specs.Addresses.{Address, target_of}
 use Rattle.tpf_base.specs.Causes.{Rose, RoseBy}
-use Rattle.tpf_base.specs.HttpHeads.{head_limit}
+use Rattle.tpf_base.specs.declared.limits.TheConstants.{HEAD_LIMIT}
 use Rattle.tpf_base.specs.Links.{WireState}
 use Rattle.tpf_base.specs.Marks.{Served}
 use Rattle.template_fill.specs.HttpAnswer.{Answer}
@@ -61,7 +61,7 @@ InPlans offer holds = (choice : offer.Choice) → offer.IsChoice choice → AllB
 
 -- the request for the address is within the limit of heads
 abbrev pub IsShort : Address → Type 0
-IsShort address = length (request_for address) ≤ head_limit
+IsShort address = length (request_for address) ≤ HEAD_LIMIT
 
 -- what a version answers to the request for an address
 abbrev pub answer_at : Publisher → ℕ → Address → Answer

@@ -1,5 +1,5 @@
 -- The starts of a call: the first page of each server, one after another.
-use Rattle.std.specs.Prelude.{ℕ, ◌≡◌, ◌-◌, ◌^◌, ◌⊎◌, ◌++◌, List, [], ◌∷◌, map, length, Option, None, Result, Ok, Err}
+use Rattle.std.specs.Prelude.{ℕ, ◌≡◌, ◌<◌, ◌-◌, ◌^◌, ◌⊎◌, ◌++◌, List, [], ◌∷◌, map, length, Option, None, Result, Ok, Err}
 use Rattle.tpf_base.specs.Addresses.{Address}
 use Rattle.tpf_base.specs.Links.{WireState}
 use Rattle.http_wire.specs.declared.message.Reply.{Reply}
@@ -9,6 +9,7 @@ use Rattle.template_fill.specs.Authorities.{ShareAuthority}
 use Rattle.control_reader.specs.Takes.{Takes}
 use Rattle.request_pool.specs.Pools.{Pooled, Ask, held}
 use Rattle.request_pool.specs.Owned.{SuitsWire}
+use Rattle.request_plan.specs.Rounds.{FormsAtHome}
 use Rattle.tpf_client.specs.declared.fault.ClientFault.{ClientFault}
 use Rattle.tpf_client.specs.declared.start.StartPages.{StartPages}
 use Rattle.tpf_client.specs.Traffic.{PoolEvent, Came, Travels, EndsWith}
@@ -50,6 +51,12 @@ versions_of pages = map (λ page. page.version) pages
 
 -- ---- one start
 
+-- a pool between two asks: nothing is held, no step had a fault, and it suits the wire
+pub record IsAtRest (pool : Pooled) (wire : WireState) : Type 0 where
+  pub none : held pool ≡ []
+  pub no_fault : pool.fault ≡ None
+  pub suits : SuitsWire pool wire
+
 -- the start page came, these were asked before, and nothing is held
 pub record HasStart (allows : List ℕ → ℕ → List ℕ → List ℕ → Type 0) (start : Address) (asked : List Ask) (page : Page) (old new : Pooled) (wire wire' : WireState) : Type 0 where
   pub events : List PoolEvent
@@ -59,9 +66,7 @@ pub record HasStart (allows : List ℕ → ℕ → List ℕ → List ℕ → Typ
   pub taken : Takes reply.body start page
   pub pages : ArePages (λ address. page.version) events
   pub asked_are : asked_in events ≡ asked
-  pub none : held new ≡ []
-  pub no_fault : new.fault ≡ None
-  pub suits : SuitsWire new wire'
+  pub rest : IsAtRest new wire'
 
 -- it did not, and these were asked or nothing
 pub record HasNoStart (allows : List ℕ → ℕ → List ℕ → List ℕ → Type 0) (start : Address) (asked : List Ask) (budget : ℕ) (fault : ClientFault) (old new : Pooled) (wire wire' : WireState) : Type 0 where
@@ -83,9 +88,7 @@ pub record HasStarts (allows : List ℕ → ℕ → List ℕ → List ℕ → Ty
   pub travels : Travels allows events old new wire wire'
   pub reads : ReadsStarts starts pages events
   pub few : WaitFew 1 (length (held old)) events
-  pub none : held new ≡ []
-  pub no_fault : new.fault ≡ None
-  pub suits : SuitsWire new wire'
+  pub rest : IsAtRest new wire'
 
 -- one of them did not
 pub record HasNoStarts (allows : List ℕ → ℕ → List ℕ → List ℕ → Type 0) (starts : List Address) (budget : ℕ) (fault : ClientFault) (old new : Pooled) (wire wire' : WireState) : Type 0 where
@@ -104,3 +107,10 @@ pub record TellsStarts (told : StartPages) (pages : List Page) : Type 0 where
 abbrev pub StartsAll : (List ℕ → ℕ → List ℕ → List ℕ → Type 0) → List Address → ℕ → Result StartPages ClientFault → Pooled → Pooled → WireState → WireState → Type 0
 StartsAll allows starts budget (Ok told) old new wire wire' = (pages : List Page) × TellsStarts told pages × HasStarts allows starts pages old new wire wire'
 StartsAll allows starts budget (Err fault) old new wire wire' = HasNoStarts allows starts budget fault old new wire wire'
+
+-- what a call needs behind the start pages: a form and a version were told at least, the forms are of these starts, and the pool is at rest
+pub record StandsBehind (starts : List Address) (pages : StartPages) (pool : Pooled) (wire : WireState) : Type 0 where
+  pub home : FormsAtHome starts pages.forms
+  pub some : 0 < length pages.forms
+  pub told : 0 < length pages.versions.items
+  pub rest : IsAtRest pool wire

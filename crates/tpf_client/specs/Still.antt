@@ -26,7 +26,7 @@ pub record AnswersOver (allows : List ℕ → ℕ → List ℕ → List ℕ → 
   pub few : length (version_of p.history version) < 2 ^ 64
   pub is_honest : IsHonestOver allows address.host address.port p.history p.config (only version)
 
--- over a wire that tells all, whose other end at the start answers so, and on which never 1000 waits follow one another
+-- over a wire that tells all, whose other end at the start answers so, and on which never MOST_IDLE waits follow one another
 abbrev pub OverStill : (List ℕ → ℕ → List ℕ → List ℕ → Type 0) → Address → WireState → (Publisher → ℕ → Type 0) → Type 0
 OverStill allows start since holds =
     (p : Publisher) (version : ℕ) → AnswersOver allows start p version → since.nature.tells ≡ All → since.nature.lively ≡ true → holds p version

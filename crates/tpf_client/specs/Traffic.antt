@@ -66,7 +66,7 @@ is_under ticket ask = if ask.ticket == ticket then 1 else 0
 pub record AreDistinct (asks : List Ask) : Type 0 where
   pub once : (ticket : ℕ) → sum_by (is_under ticket) asks ≤ 1
 
--- What every wire keeps to at each moment; `allows` is what its other ends may owe: of each link as much is told as the wire tells, none is open that was not given, what was received is a front of what is owed, and that is what may be owed; and on a lively wire never 1000 waits follow one another.
+-- What every wire keeps to at each moment; `allows` is what its other ends may owe: of each link as much is told as the wire tells, none is open that was not given, what was received is a front of what is owed, and that is what may be owed; and on a lively wire never MOST_IDLE waits follow one another.
 pub record IsLawful (allows : List ℕ → ℕ → List ℕ → List ℕ → Type 0) (wire : WireState) : Type 0 where
   pub told : (k : ℕ) → IsToldBy wire.nature.tells (wire.links k)
   pub given : OpensGiven wire

@@ -1,11 +1,12 @@
 // What is asked for.
-ghost use Rattle.std.specs.Prelude.{◌≡◌, ◌≢◌, ◌<◌, ◌≤◌, ◌^◌, None, OnOk, OnErr};
+ghost use Rattle.std.specs.Prelude.{◌≡◌, ◌≢◌, ◌<◌, ◌^◌, None, OnOk, OnErr};
 ghost use Rattle.std.specs.List.{AllByRecursion};
 ghost use Rattle.tpf_base.specs.Links.{SameAllowed};
 ghost use Rattle.request_pool.specs.Pools.{empty_pool, held};
 ghost use Rattle.request_pool.specs.Owned.{SuitsWire, held_on};
 ghost use Rattle.request_pool.specs.Closing.{ClosesSome};
 ghost use Rattle.tpf_client.specs.Asking.{PutsOne, StepsOn, next_of};
+ghost use Rattle.tpf_client.specs.Bounds.{SuitsCalls};
 
 use crate::{Options, laws};
 use http_wire::Reply;
@@ -77,8 +78,7 @@ fn next_of(stepped: Result<Stepped, PoolFault>) -> Result<Next, PoolFault>
 impl Asks {
     /// Nothing is asked for yet. It takes no memory.
     pub(crate) fn new(alloc: Global, options: &Options) -> Asks
-        requires some { 0 < options.now.links }
-        requires few { options.now.links ≤ 256 }
+        requires bounds { SuitsCalls options.now }
         ensures empty { result ≡ empty_pool options.now.links options.now.retries options.now.budget
             options.now.max_body }
         ensures limit { options.now.max_body < 2 ^ 64 }

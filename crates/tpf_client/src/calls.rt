@@ -1,7 +1,8 @@
 // The calls.
-ghost use Rattle.std.specs.Prelude.{ℕ, ◌≡◌, ◌≤◌, ◌<◌, [], ◌∷◌, length, true, IfOk, IfErr, OnErr, IsErrOf};
+ghost use Rattle.std.specs.Prelude.{ℕ, ◌≡◌, ◌<◌, [], ◌∷◌, length, true, IfOk, IfErr, OnErr, IsErrOf};
 ghost use Rattle.tpf_base.specs.Causes.{Rose};
 ghost use Rattle.tpf_base.specs.Links.{SameAllowed};
+ghost use Rattle.tpf_client.specs.Bounds.{SuitsCalls};
 ghost use Rattle.tpf_client.specs.Calls.{most_asked, WritesResult, WritesPrefix};
 ghost use Rattle.tpf_client.specs.Sinks.{LeavesSink};
 ghost use Rattle.tpf_client.specs.Sources.{sources_of, world_sources};
@@ -24,13 +25,14 @@ use std::sync::Wait;
 use template_fill::WebAddress;
 use tpf_base::{Dial, Sink};
 
-/// Asks the servers of the start pages for what a query needs, and writes the text of its result. What it asks for and the
-/// rows that it writes are those of an evaluation that begins behind the start pages, which are asked for one after another:
-/// `query` is the call over one server, by `Join`. Condition: there is a start.
+/// Asks the servers of the start pages for what a query needs, and writes the text of its result. What
+/// it asks for and the rows that it writes are those of an evaluation that begins behind the start pages,
+/// which are asked for one after another: `query` is the call over one server, by `Join`. Conditions:
+/// there is a start, and the options are in their ranges.
 ///
-/// The faults, what is written where one comes, and what is left of the connections are as with `query`, for the hosts and
-/// ports of the starts. These clauses hold whatever the other ends answer; what they mean over honest other ends is said by
-/// the calls that use this one.
+/// The faults, what is written where one comes, and what is left of the connections are as with `query`,
+/// for the hosts and ports of the starts. These clauses hold whatever the other ends answer; what they
+/// mean over honest other ends is said by the calls that use this one.
 pub fn evaluate_to<R: Wait, E: Evaluates + Drop, W: Dial, K: Sink>(
     rt: &R,
     alloc: Global,
@@ -41,9 +43,7 @@ pub fn evaluate_to<R: Wait, E: Evaluates + Drop, W: Dial, K: Sink>(
     out: &mut K,
 ) -> Result<Report, ClientFault>
     requires starts { 0 < length starts.now }
-    requires window { 1 ≤ options.now.window }
-    requires some { 1 ≤ options.now.links }
-    requires few { options.now.links ≤ 256 }
+    requires bounds { SuitsCalls options.now }
     ensures whole { IfOk result (λ report. WritesResult query.now report.rows (K.state out.old).taken
         (K.state out.new).taken) }
     ensures front { OnErr result (WritesPrefix query.now (K.state out.old).taken (K.state out.new).taken) }
@@ -54,9 +54,7 @@ pub fn evaluate_to<R: Wait, E: Evaluates + Drop, W: Dial, K: Sink>(
     ensures sink { LeavesSink (K.state out.old) (K.state out.new) result }
     ensures allowed { SameAllowed (W.allows wire.old) (W.allows wire.new) }
 {
-    laws::is_lawful(wire);
-    laws::solutions_rest_on_laws();
-    laws::traffic_rests_on_laws(wire);
+    laws::calls_rest_on_laws(wire);
     let mut asks = Asks::new(alloc, options);
     let call = Call {
         alloc,
@@ -70,7 +68,7 @@ pub fn evaluate_to<R: Wait, E: Evaluates + Drop, W: Dial, K: Sink>(
 }
 
 /// Asks the server of a start page for what a query needs, and writes the text of its result (Triple
-/// Pattern Fragments; SPARQL 1.1 Query Results JSON Format).
+/// Pattern Fragments; SPARQL 1.1 Query Results JSON Format). Condition: the options are in their ranges.
 ///
 /// The head of the text is written once the start page is read, then each row as it comes, and the
 /// end. At a fault the sink took a prefix of such a text: before the start page was read nothing, and
@@ -82,11 +80,12 @@ pub fn evaluate_to<R: Wait, E: Evaluates + Drop, W: Dial, K: Sink>(
 /// the answers and the faults of the wire together.
 ///
 /// Over a wire whose other end at the host and port of the start answers as a server does, whatever other
-/// hosts and ports answer, requests are sent for the start and the plan of the query alone, and no more of them than these and the failures of the wire. Where each answer
-/// is a page within the options, and the wire fails at most as often as a request may be sent again,
-/// the answer is `Ok`, `OutOfMemory`, or `Changed` where the data did change. Where they did not change in
-/// the call, whatever was served before it, it is `Ok` or `OutOfMemory`. What is said of a call that fails
-/// is said of the version of the start page, and of each version where that was not read.
+/// hosts and ports answer, requests are sent for the start and the plan of the query alone, and no more
+/// of them than these and the failures of the wire. Where each answer is a page within the options, and
+/// the wire fails at most as often as a request may be sent again, the answer is `Ok`, `OutOfMemory`, or
+/// `Changed` where the data did change. Where they did not change in the call, whatever was served before
+/// it, it is `Ok` or `OutOfMemory`. What is said of a call that fails is said of the version of the start
+/// page, and of each version where that was not read.
 ///
 /// `Exchange`, `Stalled` and `Cut` come where a request failed once more than it may be sent again,
 /// `Reply` where a reply is refused, `Page` where a body is no page, `Changed` where a page tells
@@ -101,9 +100,7 @@ pub fn query<R: Wait, W: Dial, K: Sink>(
     wire: &mut W,
     out: &mut K,
 ) -> Result<Report, ClientFault>
-    requires window { 1 ≤ options.now.window }
-    requires some { 1 ≤ options.now.links }
-    requires few { options.now.links ≤ 256 }
+    requires bounds { SuitsCalls options.now }
     ensures whole { IfOk result (λ report. WritesResult query.now report.rows (K.state out.old).taken
         (K.state out.new).taken) }
     ensures front { OnErr result (WritesPrefix query.now (K.state out.old).taken (K.state out.new).taken) }
@@ -131,17 +128,15 @@ pub fn query<R: Wait, W: Dial, K: Sink>(
     ensures sink { LeavesSink (K.state out.old) (K.state out.new) result }
     ensures allowed { SameAllowed (W.allows wire.old) (W.allows wire.new) }
 {
-    laws::is_lawful(wire);
-    laws::solutions_rest_on_laws();
-    laws::traffic_rests_on_laws(wire);
+    laws::calls_rest_on_laws(wire);
     laws::is_bounded(options.max_body);
     laws::is_sized(options.block);
     evaluate_to::<_, Join, _, _>(rt, alloc, query, slice::from_ref(start), options, wire, out)
 }
 
-/// Asks the servers of the start pages for what a query needs, and gives the rows of its result (solution mappings) in a
-/// list, each with a place for every name of the query: `evaluate_to` without a sink, so that `Sink` never comes. At a fault
-/// no rows are given. Condition: there is a start.
+/// Asks the servers of the start pages for what a query needs, and gives the rows of its result (solution
+/// mappings) in a list, each with a place for every name of the query: `evaluate_to` without a sink, so
+/// that `Sink` never comes. At a fault no rows are given. Conditions: as with `evaluate_to`.
 pub fn evaluate_rows<R: Wait, E: Evaluates + Drop, W: Dial>(
     rt: &R,
     alloc: Global,
@@ -151,18 +146,14 @@ pub fn evaluate_rows<R: Wait, E: Evaluates + Drop, W: Dial>(
     wire: &mut W,
 ) -> Result<(Vec<Row>, Report), ClientFault>
     requires starts { 0 < length starts.now }
-    requires window { 1 ≤ options.now.window }
-    requires some { 1 ≤ options.now.links }
-    requires few { options.now.links ≤ 256 }
+    requires bounds { SuitsCalls options.now }
     ensures ended { GivesEnded (W.allows wire.old)
         (sources_of E.Source E.fits E.is_true E.rows E.plan E.reported options.now.block)
         query.now starts.now options.now result (λ r. r.1) (λ r. r.0.items) (W.state wire.old) (W.state wire.new) }
     ensures sink { IsErrOf result ClientFault.Sink → ⊥ }
     ensures allowed { SameAllowed (W.allows wire.old) (W.allows wire.new) }
 {
-    laws::is_lawful(wire);
-    laws::solutions_rest_on_laws();
-    laws::traffic_rests_on_laws(wire);
+    laws::calls_rest_on_laws(wire);
     let mut asks = Asks::new(alloc, options);
     let call = Call {
         alloc,
@@ -186,9 +177,7 @@ pub fn collect<R: Wait, W: Dial>(
     options: &Options,
     wire: &mut W,
 ) -> Result<(Vec<Row>, Report), ClientFault>
-    requires window { 1 ≤ options.now.window }
-    requires some { 1 ≤ options.now.links }
-    requires few { options.now.links ≤ 256 }
+    requires bounds { SuitsCalls options.now }
     ensures ended { GivesOverEnds (W.allows wire.old)
         (ends_in_blocks options.now.block query.now start.now) (world_sources options.now.block)
         query.now (start.now ∷ []) options.now (most_asked options.now query.now) result (λ r. r.1) (λ r. r.0.items)
@@ -208,9 +197,7 @@ pub fn collect<R: Wait, W: Dial>(
     ensures sink { IsErrOf result ClientFault.Sink → ⊥ }
     ensures allowed { SameAllowed (W.allows wire.old) (W.allows wire.new) }
 {
-    laws::is_lawful(wire);
-    laws::solutions_rest_on_laws();
-    laws::traffic_rests_on_laws(wire);
+    laws::calls_rest_on_laws(wire);
     laws::is_bounded(options.max_body);
     laws::is_sized(options.block);
     evaluate_rows::<_, Join, _>(rt, alloc, query, slice::from_ref(start), options, wire)

@@ -14,7 +14,7 @@ pub enum ClientFault {
     /// A request failed once more than it may be sent again, and the last time the wire's count of
     /// faults rose.
     Exchange,
-    /// The same, and the last time 1000 waits had followed one another with no byte moved.
+    /// The same, and the last time `MOST_IDLE` (1000) waits had followed one another with no byte moved.
     Stalled,
     /// The same, and the last time its connection (link) ended before the reply was whole. What was
     /// received in reply is kept.
@@ -35,7 +35,7 @@ pub enum ClientFault {
 }
 
 /// The fault of a sink as that of a call.
-pub(crate) fn of_sink(fault: Fault) -> ClientFault
+pub fn of_sink(fault: Fault) -> ClientFault
     ensures { result ≡ sink_fault fault }
 {
     match fault {

@@ -63,6 +63,17 @@ pub fn traffic_rests_on_laws<W: Dial>(wire: &W)
     steps_provoke_nothing(wire);
 }
 
+/// All laws on which a call over a wire rests. It does nothing.
+pub fn calls_rest_on_laws<W: Dial>(wire: &W)
+    ensures lawful { IsLawful (W.allows wire.now) (W.state wire.now) }
+    ensures solutions { Laws }
+    ensures traffic { TrafficLaws }
+{
+    is_lawful(wire);
+    solutions_rest_on_laws();
+    traffic_rests_on_laws(wire);
+}
+
 /// A bound of a body is below 2^64. It does nothing.
 pub fn is_bounded(max_body: u64)
     ensures { max_body < 2 ^ 64 }

@@ -5,7 +5,7 @@
 //!
 //! ```rust
 //! let asked = query_of(alloc, text)?;
-//! let start = WebAddress::read(alloc, "http://localhost/data")?;
+//! let start = WebAddress::read(alloc, base)?;
 //! let mut out = MemSink::new(alloc, fails);
 //! let ended = query(rt, alloc, &asked, &start, options, wire, &mut out);
 //! let told = told(alloc, &ended)?;
@@ -24,7 +24,7 @@ mod start;
 mod turns;
 
 pub use calls::{collect, evaluate_rows, evaluate_to, query};
-pub use fault::ClientFault;
+pub use fault::{ClientFault, of_sink};
 pub use options::{Options, Report};
 pub use request_plan::BlockSize;
 pub use rows::GATHERED;

@@ -6,11 +6,12 @@ use request_plan::BlockSize;
 pub struct Options {
     /// How many nodes of the join may work at once, at least 1: so many rows are extended at a time.
     pub window: u32,
-    /// For how many rows one request may ask, from 1, which is row by row, to 64: a server that restricts
-    /// its fragments by rows (brTPF) answers a block of them at once, and any other answers with all that match the pattern.
+    /// For how many rows one request may ask, from 1, which is row by row, to `MOST_ROWS` (64): a server
+    /// that restricts its fragments by rows (brTPF) answers a block of them at once, and any other answers
+    /// with all that match the pattern.
     pub block: BlockSize,
     /// How many requests may be under way at once, and how many connections (links) are kept open, from 1
-    /// to 256.
+    /// to `MOST_LINKS` (256).
     pub links: u32,
     /// How often a request that failed is sent again. 0: a request that fails ends the call.
     pub retries: u32,

@@ -1,18 +1,17 @@
 // What a call answers: the start pages are asked for, and then the rows of the join are written as a text or gathered in a list.
-ghost use Rattle.std.specs.Prelude.{◌≡◌, ◌≤◌, ◌<◌, ◌⊎◌, [], List, length, IfOk, IfErr, OnOk, IsErrOf, None};
+ghost use Rattle.std.specs.Prelude.{◌≡◌, ◌≤◌, ◌<◌, ◌⊎◌, List, length, IfOk, IfErr, OnOk, IsErrOf, None};
 ghost use Rattle.std.specs.Io.KnownBytes.{Appends};
 ghost use Rattle.tpf_base.specs.Causes.{counted_by};
 ghost use Rattle.tpf_base.specs.Links.{SameAllowed};
 ghost use Rattle.bgp_core.specs.Solutions.{Places};
 ghost use Rattle.result_json.specs.Results.{result_text};
-ghost use Rattle.request_pool.specs.Pools.{held};
 ghost use Rattle.request_pool.specs.Owned.{SuitsWire};
-ghost use Rattle.request_plan.specs.Rounds.{FormsAtHome};
 ghost use Rattle.tpf_client.specs.Traffic.{PoolEvent};
 ghost use Rattle.tpf_client.specs.Causes.{IsLocal};
 ghost use Rattle.tpf_client.specs.Rows.{begun};
 ghost use Rattle.tpf_client.specs.Sinks.{LeavesSink};
 ghost use Rattle.tpf_client.specs.Told.{told_at};
+ghost use Rattle.tpf_client.specs.Starts.{IsAtRest, StandsBehind};
 ghost use Rattle.tpf_client.specs.Sources.{sources_of};
 ghost use Rattle.tpf_client.specs.Calls.{Joins, JoinsSome, GathersRest, WritesRest, WritesLess, WritesAll, WritesSome, Returns, Ran, most_behind, most_over};
 ghost use Rattle.tpf_client.specs.Shown.{WritesShown, ShowsLess};
@@ -51,11 +50,7 @@ fn join_pages<R: Wait, E: Evaluates + Drop, W: Dial, B, T: TakesRows<B>>(
     behind: &mut B,
 ) -> Result<(), ClientFault>
     requires window { 1 ≤ call.options.now.window }
-    requires some { 0 < length pages.forms }
-    requires home { FormsAtHome call.starts.now pages.forms }
-    requires none { held asks.old ≡ [] }
-    requires no_fault { asks.old.fault ≡ None }
-    requires suits { SuitsWire asks.old (W.state wire.old) }
+    requires stands { StandsBehind call.starts.now pages asks.old (W.state wire.old) }
     ensures joins { OnOk result ((events : List PoolEvent) × (given : List Places)
         × Joins (W.allows wire.old)
         (most_behind call.entry.options.now call.entry.query.now (length pages.forms))
@@ -114,11 +109,7 @@ fn write_joined<R: Wait, E: Evaluates + Drop, W: Dial, K: Sink>(
     out: &mut K,
 ) -> Result<(), ClientFault>
     requires window { 1 ≤ call.options.now.window }
-    requires some { 0 < length pages.forms }
-    requires home { FormsAtHome call.starts.now pages.forms }
-    requires none { held asks.old ≡ [] }
-    requires no_fault { asks.old.fault ≡ None }
-    requires suits { SuitsWire asks.old (W.state wire.old) }
+    requires stands { StandsBehind call.starts.now pages asks.old (W.state wire.old) }
     requires fresh { text.old ≡ begun call.query.now }
     ensures ok { OnOk result ((events : List PoolEvent) × (rows : List Places)
         × Joins (W.allows wire.old)
@@ -129,13 +120,7 @@ fn write_joined<R: Wait, E: Evaluates + Drop, W: Dial, K: Sink>(
         (W.state wire.old) (W.state wire.new)
         × Appends (K.state out.old).taken (K.state out.new).taken (result_text call.entry.query.now rows)
         × (text.new.count ≡ counted_by (length rows) 0)) }
-    ensures err { IfErr result (λ fault. WritesLess (W.allows wire.old)
-        (most_behind call.entry.options.now call.entry.query.now (length pages.forms))
-        (sources_of E.Source E.fits E.is_true E.rows E.plan E.reported call.entry.options.now.block)
-        call.entry.query.now call.entry.starts.now pages.forms
-        (told_at call.entry.starts.now pages.versions.items) call.entry.options.now.budget fault asks.old asks.new
-        (W.state wire.old) (W.state wire.new) (K.state out.old).taken (K.state out.new).taken) }
-    ensures shown { IfErr result (λ fault. ShowsLess (W.allows wire.old)
+    ensures err { IfErr result (λ fault. ShowsLess (W.allows wire.old)
         (most_behind call.entry.options.now call.entry.query.now (length pages.forms))
         (sources_of E.Source E.fits E.is_true E.rows E.plan E.reported call.entry.options.now.block)
         call.entry.query.now call.entry.starts.now pages.forms
@@ -168,24 +153,13 @@ fn write_rows<R: Wait, E: Evaluates + Drop, W: Dial, K: Sink>(
     out: &mut K,
 ) -> Result<Report, ClientFault>
     requires window { 1 ≤ call.options.now.window }
-    requires home { FormsAtHome call.starts.now pages.forms }
-    requires some { 0 < length pages.forms }
-    requires told { 0 < length pages.versions.items }
-    requires none { held asks.old ≡ [] }
-    requires no_fault { asks.old.fault ≡ None }
-    requires suits { SuitsWire asks.old (W.state wire.old) }
+    requires stands { StandsBehind call.starts.now pages asks.old (W.state wire.old) }
     ensures ok { IfOk result (λ report. WritesRest (W.allows wire.old)
         (most_behind call.entry.options.now call.entry.query.now (length pages.forms))
         (sources_of E.Source E.fits E.is_true E.rows E.plan E.reported call.entry.options.now.block)
         call.entry.query.now call.entry.starts.now pages.forms pages.versions.items report asks.old asks.new
         (W.state wire.old) (W.state wire.new) (K.state out.old).taken (K.state out.new).taken) }
-    ensures err { IfErr result (λ fault. WritesLess (W.allows wire.old)
-        (most_behind call.entry.options.now call.entry.query.now (length pages.forms))
-        (sources_of E.Source E.fits E.is_true E.rows E.plan E.reported call.entry.options.now.block)
-        call.entry.query.now call.entry.starts.now pages.forms
-        (told_at call.entry.starts.now pages.versions.items) call.entry.options.now.budget fault asks.old asks.new
-        (W.state wire.old) (W.state wire.new) (K.state out.old).taken (K.state out.new).taken) }
-    ensures shown { IfErr result (λ fault. ShowsLess (W.allows wire.old)
+    ensures err { IfErr result (λ fault. ShowsLess (W.allows wire.old)
         (most_behind call.entry.options.now call.entry.query.now (length pages.forms))
         (sources_of E.Source E.fits E.is_true E.rows E.plan E.reported call.entry.options.now.block)
         call.entry.query.now call.entry.starts.now pages.forms
@@ -221,9 +195,7 @@ pub(crate) fn write_result<R: Wait, E: Evaluates + Drop, W: Dial, K: Sink>(
 ) -> Result<Report, ClientFault>
     requires starts { 0 < length call.starts.now }
     requires window { 1 ≤ call.options.now.window }
-    requires none { held asks.old ≡ [] }
-    requires no_fault { asks.old.fault ≡ None }
-    requires suits { SuitsWire asks.old (W.state wire.old) }
+    requires rest { IsAtRest asks.old (W.state wire.old) }
     ensures ok { IfOk result (λ report. WritesAll (Ran (W.allows wire.old)
         (most_over call.entry.options.now call.entry.query.now (length call.entry.starts.now)) asks.old asks.new
         (W.state wire.old) (W.state wire.new))
@@ -254,12 +226,7 @@ fn gather_rows<R: Wait, E: Evaluates + Drop, W: Dial>(
     wire: &mut W,
 ) -> Result<(Vec<Row>, Report), ClientFault>
     requires window { 1 ≤ call.options.now.window }
-    requires home { FormsAtHome call.starts.now pages.forms }
-    requires some { 0 < length pages.forms }
-    requires told { 0 < length pages.versions.items }
-    requires none { held asks.old ≡ [] }
-    requires no_fault { asks.old.fault ≡ None }
-    requires suits { SuitsWire asks.old (W.state wire.old) }
+    requires stands { StandsBehind call.starts.now pages asks.old (W.state wire.old) }
     ensures ok { IfOk result (λ r. GathersRest (W.allows wire.old)
         (most_behind call.entry.options.now call.entry.query.now (length pages.forms))
         (sources_of E.Source E.fits E.is_true E.rows E.plan E.reported call.entry.options.now.block)
@@ -299,9 +266,7 @@ pub(crate) fn gather<R: Wait, E: Evaluates + Drop, W: Dial>(
 ) -> Result<(Vec<Row>, Report), ClientFault>
     requires starts { 0 < length call.starts.now }
     requires window { 1 ≤ call.options.now.window }
-    requires none { held asks.old ≡ [] }
-    requires no_fault { asks.old.fault ≡ None }
-    requires suits { SuitsWire asks.old (W.state wire.old) }
+    requires rest { IsAtRest asks.old (W.state wire.old) }
     ensures ok { IfOk result (λ r. Returns (Ran (W.allows wire.old)
         (most_over call.entry.options.now call.entry.query.now (length call.entry.starts.now)) asks.old asks.new
         (W.state wire.old) (W.state wire.new))

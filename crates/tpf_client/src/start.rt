@@ -5,7 +5,7 @@ ghost use Rattle.tpf_base.specs.Links.{SameAllowed};
 ghost use Rattle.request_pool.specs.Pools.{held};
 ghost use Rattle.request_pool.specs.Owned.{SuitsWire};
 ghost use Rattle.tpf_client.specs.Asking.{Awaits, PutsOne, ReadsPage};
-ghost use Rattle.tpf_client.specs.Starts.{StartsOne, StartsAll, start_ask};
+ghost use Rattle.tpf_client.specs.Starts.{IsAtRest, StartsOne, StartsAll, start_ask};
 
 use crate::asks::{Arrived, Asks, Next};
 use crate::fault::shown;
@@ -104,9 +104,7 @@ fn ask_start<R: Wait, W: Dial>(
     asks: &mut Asks,
     wire: &mut W,
 ) -> Result<Page, ClientFault>
-    requires suits { SuitsWire asks.old (W.state wire.old) }
-    requires no_fault { asks.old.fault ≡ None }
-    requires none { held asks.old ≡ [] }
+    requires rest { IsAtRest asks.old (W.state wire.old) }
     ensures starts { StartsOne (W.allows wire.old) start.now (start_ask start.now ∷ []) budget result asks.old asks.new
         (W.state wire.old) (W.state wire.new) }
     ensures no_sink { IsErrOf result ClientFault.Sink → ⊥ }
@@ -151,9 +149,7 @@ pub(crate) fn ask_starts<R: Wait, W: Dial>(
     wire: &mut W,
 ) -> Result<StartPages, ClientFault>
     requires some { 0 < length starts.now }
-    requires suits { SuitsWire asks.old (W.state wire.old) }
-    requires no_fault { asks.old.fault ≡ None }
-    requires none { held asks.old ≡ [] }
+    requires rest { IsAtRest asks.old (W.state wire.old) }
     ensures starts { StartsAll (W.allows wire.old) starts.now budget result asks.old asks.new (W.state wire.old)
         (W.state wire.new) }
     ensures no_sink { IsErrOf result ClientFault.Sink → ⊥ }

@@ -4,18 +4,15 @@ use Rattle.std.proofs.Math.Nat.{le_refl}
 use Rattle.std.specs.Prelude.{IfErr}
 use Rattle.std.proofs.lemmas.Result.{IfOk-weaker, IfErr-weaker}
 use Rattle.tpf_base.specs.Causes.{Rose}
-use Rattle.request_pool.specs.Pools.{Pooled}
-use Rattle.tpf_client.specs.Traffic.{PoolEvent}
-use Rattle.tpf_client.specs.Calls.{RunsPool, AreThese, most_over}
+use Rattle.tpf_client.specs.Calls.{most_over}
 use Rattle.tpf_client.specs.Ends.{AreHonestServers, servers_ends}
 use Rattle.tpf_client.specs.Ended.{WritesOverEnds}
 use Rattle.tpf_client.specs.Offers.{Publisher, servers_offer}
 use Rattle.tpf_client.specs.Plans.{RisesFew, PlanFits, MayStill}
-use Rattle.tpf_client.proofs.Shutting.{on-err-of}
-use Rattle.tpf_client.proofs.Planned.{these-run}
 use Rattle.tpf_client.proofs.Clauses.{writes-over}
 use Rattle.tpf_client.proofs.Completing.{completes}
-use Rattle.tpf_client.proofs.Covered.{Covered, solutions-written, front-written}
+use Rattle.tpf_client.proofs.Covered.{Covered}
+use Rattle.tpf_client.proofs.Offered.{text-offered, front-offered}
 use Rattle.federated_query.specs.Servers.{joint_sources}
 use Rattle.federated_query.proofs.Covering.{servers-covered}
 use Rattle.federated_query.proofs.Fitting.{plan-fits, choice-fits}
@@ -26,32 +23,26 @@ use Rattle.federated_query.proofs.call.federate.Goals as goal
 covers : (g : given.Over) (c : goal.After-evaluate_to g) (publishers : List Publisher) → AreHonestServers (g.W.Wire.allows c.args.wire.now) c.args.starts.now publishers (g.W.Wire.state c.args.wire.now)
     → Covered joint_sources (servers_offer publishers c.args.query.now c.args.starts.now) (g.W.Wire.allows c.args.wire.now) c.args.options.now (g.W.Wire.state c.args.wire.now) (g.W.Wire.state c.evaluate_to.new.wire) c.args.starts.now c.args.query.now
 covers g c publishers honest =
-    servers-covered c.solutions_rest_on_laws.ensures c.versions_are_valid.ensures.versions (g.W.Wire.allows c.args.wire.now) c.args.options.now (g.W.Wire.state c.args.wire.now) (g.W.Wire.state c.evaluate_to.new.wire) c.is_lawful.ensures c.is_bounded.ensures publishers c.args.starts.now c.requires.starts c.requires.apart honest c.args.query.now
+    servers-covered c.calls_rest_on_laws.ensures.solutions c.versions_are_valid.ensures.versions (g.W.Wire.allows c.args.wire.now) c.args.options.now (g.W.Wire.state c.args.wire.now) (g.W.Wire.state c.evaluate_to.new.wire) c.calls_rest_on_laws.ensures.lawful c.is_bounded.ensures publishers c.args.starts.now c.requires.starts c.requires.apart honest c.args.query.now
 
 ended : (g : given.Over) (c : goal.After-evaluate_to g)
     → WritesOverEnds (g.W.Wire.allows c.args.wire.now) (servers_ends c.args.query.now c.args.starts.now) joint_sources c.args.query.now c.args.starts.now c.args.options.now (most_over c.args.options.now c.args.query.now (length c.args.starts.now)) c.evaluate_to.result (g.W.Wire.state c.args.wire.now) (g.W.Wire.state c.evaluate_to.new.wire) (g.K.Sink.state c.args.out.now) (g.K.Sink.state c.evaluate_to.new.out)
 ended g c =
-    writes-over c.solutions_rest_on_laws.ensures c.traffic_rests_on_laws.ensures (g.W.Wire.allows c.args.wire.now) c.args.options.now (g.W.Wire.state c.args.wire.now) (g.W.Wire.state c.evaluate_to.new.wire) c.is_lawful.ensures c.args.starts.now joint_sources c.args.query.now c.is_bounded.ensures c.requires.some (servers_ends c.args.query.now c.args.starts.now) (covers g c)
+    writes-over c.calls_rest_on_laws.ensures.solutions c.calls_rest_on_laws.ensures.traffic (g.W.Wire.allows c.args.wire.now) c.args.options.now (g.W.Wire.state c.args.wire.now) (g.W.Wire.state c.evaluate_to.new.wire) c.calls_rest_on_laws.ensures.lawful c.args.starts.now joint_sources c.args.query.now c.is_bounded.ensures c.requires.bounds.1 (servers_ends c.args.query.now c.args.starts.now) (covers g c)
     (most_over c.args.options.now c.args.query.now (length c.args.starts.now)) (le_refl (most_over c.args.options.now c.args.query.now (length c.args.starts.now))) c.evaluate_to.result (g.K.Sink.state c.args.out.now) (g.K.Sink.state c.evaluate_to.new.out) c.evaluate_to.ensures.ended
-
--- what happened in it is a run of the pool
-abbrev runs : (g : given.Over) (c : goal.After-evaluate_to g) (events : List PoolEvent) (pool : Pooled) → AreThese (ended g c).acts.happened.events (ended g c).acts.happened.pool events pool
-    → RunsPool (g.W.Wire.allows c.args.wire.now) c.args.options.now (g.W.Wire.state c.args.wire.now) (g.W.Wire.state c.evaluate_to.new.wire) events pool
-runs g c events pool is = these-run (g.W.Wire.allows c.args.wire.now) c.args.options.now (g.W.Wire.state c.args.wire.now) (g.W.Wire.state c.evaluate_to.new.wire) c.args.starts.now (ended g c).acts.happened events pool is
 
 pub returns-clause-ended : goal.returns-clause-ended
 returns-clause-ended g c = ended g c
 
 pub returns-clause-headline : goal.returns-clause-headline
 returns-clause-headline g c = λ publishers honest.
-    IfOk-weaker c.evaluate_to.result _ _ (λ report w.
-    solutions-written joint_sources (servers_offer publishers c.args.query.now c.args.starts.now) (g.W.Wire.allows c.args.wire.now) c.args.options.now (g.W.Wire.state c.args.wire.now) (g.W.Wire.state c.evaluate_to.new.wire) c.args.starts.now c.args.query.now (covers g c publishers honest) _ (runs g c) report _ _ w) (ended g c).ok
+    text-offered (g.W.Wire.allows c.args.wire.now) c.args.options.now (g.W.Wire.state c.args.wire.now) (g.W.Wire.state c.evaluate_to.new.wire) c.args.starts.now joint_sources c.args.query.now (servers_offer publishers c.args.query.now c.args.starts.now) (covers g c publishers honest)
+    (servers_ends c.args.query.now c.args.starts.now) (most_over c.args.options.now c.args.query.now (length c.args.starts.now)) c.evaluate_to.result (g.K.Sink.state c.args.out.now) (g.K.Sink.state c.evaluate_to.new.out) (ended g c)
 
 pub returns-clause-prefix : goal.returns-clause-prefix
 returns-clause-prefix g c = λ publishers honest.
-    on-err-of c.evaluate_to.result _ _ (λ fault w.
-    front-written joint_sources (servers_offer publishers c.args.query.now c.args.starts.now) (g.W.Wire.allows c.args.wire.now) c.args.options.now (g.W.Wire.state c.args.wire.now) (g.W.Wire.state c.evaluate_to.new.wire) c.args.starts.now c.args.query.now (covers g c publishers honest) _ (runs g c)
-    c.solutions_rest_on_laws.ensures.pieces c.solutions_rest_on_laws.ensures.goes_on c.args.options.now.budget fault _ _ w.fails.some) (ended g c).err
+    front-offered (g.W.Wire.allows c.args.wire.now) c.args.options.now (g.W.Wire.state c.args.wire.now) (g.W.Wire.state c.evaluate_to.new.wire) c.args.starts.now joint_sources c.args.query.now (servers_offer publishers c.args.query.now c.args.starts.now) (covers g c publishers honest)
+    (servers_ends c.args.query.now c.args.starts.now) (most_over c.args.options.now c.args.query.now (length c.args.starts.now)) c.calls_rest_on_laws.ensures.solutions.pieces c.calls_rest_on_laws.ensures.solutions.goes_on c.evaluate_to.result (g.K.Sink.state c.args.out.now) (g.K.Sink.state c.evaluate_to.new.out) (ended g c)
 
 -- where the plan fits
 complete : (g : given.Over) (c : goal.After-evaluate_to g) (publishers : List Publisher) → AreHonestServers (g.W.Wire.allows c.args.wire.now) c.args.starts.now publishers (g.W.Wire.state c.args.wire.now)
@@ -75,7 +66,7 @@ returns-clause-version g c = IfOk-weaker c.evaluate_to.result _ _ (λ report w. 
 
 pub returns-clause-still : goal.returns-clause-still
 returns-clause-still g c = λ publishers versions honest still alive rise few fits none.
-    still-wants c.solutions_rest_on_laws.ensures c.traffic_rests_on_laws.ensures c.versions_are_valid.ensures.versions (g.W.Wire.allows c.args.wire.now) c.args.options.now (g.W.Wire.state c.args.wire.now) (g.W.Wire.state c.evaluate_to.new.wire) c.is_lawful.ensures c.is_bounded.ensures publishers c.args.starts.now c.requires.starts c.requires.apart honest c.args.query.now versions still
+    still-wants c.calls_rest_on_laws.ensures.solutions c.calls_rest_on_laws.ensures.traffic c.versions_are_valid.ensures.versions (g.W.Wire.allows c.args.wire.now) c.args.options.now (g.W.Wire.state c.args.wire.now) (g.W.Wire.state c.evaluate_to.new.wire) c.calls_rest_on_laws.ensures.lawful c.is_bounded.ensures publishers c.args.starts.now c.requires.starts c.requires.apart honest c.args.query.now versions still
     (ended g c).acts.happened c.evaluate_to.result _ _ alive rise few fits (IfErr-weaker c.evaluate_to.result _ _ (λ fault w. w.fails.some) (ended g c).err) (λ e. none (c.evaluate_to.ensures.sink.sink e))
 
 pub returns-clause-still_limits : goal.returns-clause-still_limits

@@ -2,15 +2,6 @@
 use Rattle.group_patterns.proofs.Progressing.{call-gave, call-ended}
 use Rattle.group_patterns.proofs.block.collect_block.Goals as goal
 
-pub collect-requires-clause-window : goal.collect-requires-clause-window
-collect-requires-clause-window g c = c.requires.bounds.window
-
-pub collect-requires-clause-some : goal.collect-requires-clause-some
-collect-requires-clause-some g c = c.requires.bounds.some
-
-pub collect-requires-clause-few : goal.collect-requires-clause-few
-collect-requires-clause-few g c = c.requires.bounds.few
-
 pub returns-in-Ok-clause-ok : goal.returns-in-Ok-clause-ok
 returns-in-Ok-clause-ok g c =
     call-gave (g.W.Wire.allows c.args.wire.now) c.args.options.now c.args.start.now c.args.names.now c.args.patterns.now (g.W.Wire.state c.args.wire.now) (g.W.Wire.state c.collect.new.wire) c.requires.left (g.met.W.Wire.given_alone c.collect.new.wire) (λ r. r.1) (λ r. r.0.items)

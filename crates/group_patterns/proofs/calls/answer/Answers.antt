@@ -8,9 +8,6 @@ use Rattle.group_patterns.proofs.Acting.{ends-groups}
 use Rattle.group_patterns.proofs.Still.{wants}
 use Rattle.group_patterns.proofs.calls.answer.Goals as goal
 
-pub write_answers-requires : goal.write_answers-requires
-write_answers-requires g c = record { bounds = record { window = c.requires.window; some = c.requires.some; few = c.requires.few } }
-
 pub returns-clause-whole : goal.returns-clause-whole
 returns-clause-whole g c = if-ok-from c.write_answers.result _ _ c.write_answers.ensures.ok (λ report w. group-written (g.W.Wire.allows c.args.wire.now) c.args.options.now c.args.start.now c.args.query.now report (g.W.Wire.state c.args.wire.now) (g.W.Wire.state c.write_answers.new.wire) _ _ w)
 

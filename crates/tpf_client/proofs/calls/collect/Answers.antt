@@ -1,16 +1,13 @@
 -- The one call over one start; over an honest wire it is covered by what the server offers.
 use Rattle.std.proofs.Common.{List, [], ◌∷◌, subst}
-use Rattle.std.proofs.lemmas.Result.{IfOk-weaker, IfErr-weaker}
+use Rattle.std.proofs.lemmas.Result.{IfErr-weaker}
 use Rattle.tpf_base.specs.Addresses.{Address}
-use Rattle.request_pool.specs.Pools.{Pooled}
-use Rattle.tpf_client.specs.Traffic.{PoolEvent}
-use Rattle.tpf_client.specs.Calls.{RunsPool, AreThese, most_asked}
+use Rattle.tpf_client.specs.Calls.{most_asked}
 use Rattle.tpf_client.specs.Sources.{world_sources}
 use Rattle.tpf_client.specs.Offers.{publisher, offer_in_blocks}
 use Rattle.tpf_client.specs.Ends.{ends_in_blocks}
 use Rattle.tpf_client.specs.Ended.{GivesEnded, GivesOverEnds}
-use Rattle.tpf_client.proofs.Planned.{these-run}
-use Rattle.tpf_client.proofs.Covered.{solutions-given}
+use Rattle.tpf_client.proofs.Offered.{rows-offered}
 use Rattle.tpf_client.proofs.Completing.{completes}
 use Rattle.tpf_client.proofs.Single.{covers, wants-so, paces-still, gives-single}
 use Rattle.tpf_client.proofs.calls.collect.Given as given
@@ -21,13 +18,8 @@ use Rattle.tpf_client.proofs.calls.collect.Goals as goal
 ended : (g : given.Over) (c : goal.After-evaluate_rows g)
     → GivesOverEnds (g.W.Wire.allows c.args.wire.now) (ends_in_blocks c.args.options.now.block c.args.query.now c.args.start.now) (world_sources c.args.options.now.block) c.args.query.now (c.args.start.now ∷ []) c.args.options.now (most_asked c.args.options.now c.args.query.now) c.evaluate_rows.result (λ r. r.1) (λ r. r.0.items) (g.W.Wire.state c.args.wire.now) (g.W.Wire.state c.evaluate_rows.new.wire)
 ended g c =
-    gives-single c.solutions_rest_on_laws.ensures c.traffic_rests_on_laws.ensures (g.W.Wire.allows c.args.wire.now) c.args.options.now (g.W.Wire.state c.args.wire.now) (g.W.Wire.state c.evaluate_rows.new.wire) c.is_lawful.ensures c.is_bounded.ensures c.args.start.now c.args.query.now c.args.options.now.block (c.is_sized.ensures.low, c.is_sized.ensures.high) c.requires.some c.evaluate_rows.result (λ r. r.1) (λ r. r.0.items)
+    gives-single c.calls_rest_on_laws.ensures.solutions c.calls_rest_on_laws.ensures.traffic (g.W.Wire.allows c.args.wire.now) c.args.options.now (g.W.Wire.state c.args.wire.now) (g.W.Wire.state c.evaluate_rows.new.wire) c.calls_rest_on_laws.ensures.lawful c.is_bounded.ensures c.args.start.now c.args.query.now c.args.options.now.block (c.is_sized.ensures.low, c.is_sized.ensures.high) c.requires.bounds.1 c.evaluate_rows.result (λ r. r.1) (λ r. r.0.items)
     (subst (λ (l : List Address). GivesEnded (g.W.Wire.allows c.args.wire.now) (world_sources c.args.options.now.block) c.args.query.now l c.args.options.now c.evaluate_rows.result (λ r. r.1) (λ r. r.0.items) (g.W.Wire.state c.args.wire.now) (g.W.Wire.state c.evaluate_rows.new.wire)) c.from_ref.ensures.value c.evaluate_rows.ensures.ended)
-
--- what happened in it is a run of the pool
-abbrev runs : (g : given.Over) (c : goal.After-evaluate_rows g) (events : List PoolEvent) (pool : Pooled) → AreThese (ended g c).acts.happened.events (ended g c).acts.happened.pool events pool
-    → RunsPool (g.W.Wire.allows c.args.wire.now) c.args.options.now (g.W.Wire.state c.args.wire.now) (g.W.Wire.state c.evaluate_rows.new.wire) events pool
-runs g c events pool is = these-run (g.W.Wire.allows c.args.wire.now) c.args.options.now (g.W.Wire.state c.args.wire.now) (g.W.Wire.state c.evaluate_rows.new.wire) (c.args.start.now ∷ []) (ended g c).acts.happened events pool is
 
 -- ---- the result
 
@@ -36,9 +28,9 @@ returns-clause-ended g c = ended g c
 
 pub returns-clause-headline : goal.returns-clause-headline
 returns-clause-headline g c = λ history config honest.
-    IfOk-weaker c.evaluate_rows.result _ _ (λ r w.
-    solutions-given (world_sources c.args.options.now.block) (offer_in_blocks c.args.options.now.block (publisher history config) c.args.query.now c.args.start.now) (g.W.Wire.allows c.args.wire.now) c.args.options.now (g.W.Wire.state c.args.wire.now) (g.W.Wire.state c.evaluate_rows.new.wire) (c.args.start.now ∷ []) c.args.query.now
-    (covers c.solutions_rest_on_laws.ensures c.traffic_rests_on_laws.ensures (g.W.Wire.allows c.args.wire.now) c.args.options.now (g.W.Wire.state c.args.wire.now) (g.W.Wire.state c.evaluate_rows.new.wire) c.is_lawful.ensures c.is_bounded.ensures c.args.start.now c.args.query.now c.args.options.now.block (c.is_sized.ensures.low, c.is_sized.ensures.high) (publisher history config) honest) _ (runs g c) r.1 r.0.items w) (ended g c).ok
+    rows-offered (g.W.Wire.allows c.args.wire.now) c.args.options.now (g.W.Wire.state c.args.wire.now) (g.W.Wire.state c.evaluate_rows.new.wire) (c.args.start.now ∷ []) (world_sources c.args.options.now.block) c.args.query.now (offer_in_blocks c.args.options.now.block (publisher history config) c.args.query.now c.args.start.now)
+    (covers c.calls_rest_on_laws.ensures.solutions c.calls_rest_on_laws.ensures.traffic (g.W.Wire.allows c.args.wire.now) c.args.options.now (g.W.Wire.state c.args.wire.now) (g.W.Wire.state c.evaluate_rows.new.wire) c.calls_rest_on_laws.ensures.lawful c.is_bounded.ensures c.args.start.now c.args.query.now c.args.options.now.block (c.is_sized.ensures.low, c.is_sized.ensures.high) (publisher history config) honest)
+    (ends_in_blocks c.args.options.now.block c.args.query.now c.args.start.now) (most_asked c.args.options.now c.args.query.now) c.evaluate_rows.result (λ r. r.1) (λ r. r.0.items) (ended g c)
 
 -- ---- the wire
 
@@ -52,8 +44,8 @@ returns-clause-complete g c = λ history config honest alive rise few fits.
 
 pub returns-clause-still : goal.returns-clause-still
 returns-clause-still g c = λ p version over tells alive rise few fits none.
-    wants-so c.solutions_rest_on_laws.ensures c.traffic_rests_on_laws.ensures (g.W.Wire.allows c.args.wire.now) c.args.options.now (g.W.Wire.state c.args.wire.now) (g.W.Wire.state c.evaluate_rows.new.wire) c.is_lawful.ensures c.is_bounded.ensures c.args.start.now c.args.query.now c.args.options.now.block (c.is_sized.ensures.low, c.is_sized.ensures.high) p version over tells (ended g c).acts.happened c.evaluate_rows.result _ _ alive rise few fits (IfErr-weaker c.evaluate_rows.result _ _ (λ fault w. w.some) (ended g c).err) c.evaluate_rows.ensures.sink
+    wants-so c.calls_rest_on_laws.ensures.solutions c.calls_rest_on_laws.ensures.traffic (g.W.Wire.allows c.args.wire.now) c.args.options.now (g.W.Wire.state c.args.wire.now) (g.W.Wire.state c.evaluate_rows.new.wire) c.calls_rest_on_laws.ensures.lawful c.is_bounded.ensures c.args.start.now c.args.query.now c.args.options.now.block (c.is_sized.ensures.low, c.is_sized.ensures.high) p version over tells (ended g c).acts.happened c.evaluate_rows.result _ _ alive rise few fits (IfErr-weaker c.evaluate_rows.result _ _ (λ fault w. w.some) (ended g c).err) c.evaluate_rows.ensures.sink
 
 pub returns-clause-paced : goal.returns-clause-paced
 returns-clause-paced g c = λ p version over tells alive.
-    paces-still c.solutions_rest_on_laws.ensures c.traffic_rests_on_laws.ensures (g.W.Wire.allows c.args.wire.now) c.args.options.now (g.W.Wire.state c.args.wire.now) (g.W.Wire.state c.evaluate_rows.new.wire) c.is_lawful.ensures c.is_bounded.ensures c.args.start.now c.args.query.now c.args.options.now.block (c.is_sized.ensures.low, c.is_sized.ensures.high) p version over tells (ended g c).acts.happened c.evaluate_rows.result (λ r. r.1) (λ r. r.0.items) alive (ended g c).ok
+    paces-still c.calls_rest_on_laws.ensures.solutions c.calls_rest_on_laws.ensures.traffic (g.W.Wire.allows c.args.wire.now) c.args.options.now (g.W.Wire.state c.args.wire.now) (g.W.Wire.state c.evaluate_rows.new.wire) c.calls_rest_on_laws.ensures.lawful c.is_bounded.ensures c.args.start.now c.args.query.now c.args.options.now.block (c.is_sized.ensures.low, c.is_sized.ensures.high) p version over tells (ended g c).acts.happened c.evaluate_rows.result (λ r. r.1) (λ r. r.0.items) alive (ended g c).ok

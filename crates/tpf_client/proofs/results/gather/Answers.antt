@@ -1,27 +1,12 @@
 -- The forms of the start pages have the authorities of the starts, and nothing is held behind these.
 use Rattle.std.proofs.lemmas.Result.{IfOk-weaker, IfErr-weaker}
 use Rattle.tpf_client.proofs.Shutting.{either-way}
-use Rattle.tpf_client.proofs.Written.{forms-told, some-forms, some-versions, all-gathered, some-written, none-written, less-suits}
+use Rattle.tpf_client.proofs.Written.{stands-behind, all-gathered, some-written, none-written, less-suits}
 use Rattle.tpf_client.proofs.Waiting.{allowed-then}
 use Rattle.tpf_client.proofs.results.gather.Goals as goal
 
-pub gather_rows-requires-clause-home : goal.gather_rows-requires-clause-home
-gather_rows-requires-clause-home g c = let s = c.in-Ok.ensures.starts in forms-told (g.W.Wire.allows c.args.wire.now) c.args.call.starts.now s.0 c.in-Ok.pages c.args.asks.now c.ask_starts.new.asks (g.W.Wire.state c.args.wire.now) (g.W.Wire.state c.ask_starts.new.wire) s.1 s.2
-
-pub gather_rows-requires-clause-some : goal.gather_rows-requires-clause-some
-gather_rows-requires-clause-some g c = let s = c.in-Ok.ensures.starts in some-forms (g.W.Wire.allows c.args.wire.now) c.args.call.starts.now s.0 c.in-Ok.pages c.args.asks.now c.ask_starts.new.asks (g.W.Wire.state c.args.wire.now) (g.W.Wire.state c.ask_starts.new.wire) s.1 s.2 c.requires.starts
-
-pub gather_rows-requires-clause-told : goal.gather_rows-requires-clause-told
-gather_rows-requires-clause-told g c = let s = c.in-Ok.ensures.starts in some-versions (g.W.Wire.allows c.args.wire.now) c.args.call.starts.now s.0 c.in-Ok.pages c.args.asks.now c.ask_starts.new.asks (g.W.Wire.state c.args.wire.now) (g.W.Wire.state c.ask_starts.new.wire) s.1 s.2 c.requires.starts
-
-pub gather_rows-requires-clause-none : goal.gather_rows-requires-clause-none
-gather_rows-requires-clause-none g c = c.in-Ok.ensures.starts.2.none
-
-pub gather_rows-requires-clause-no_fault : goal.gather_rows-requires-clause-no_fault
-gather_rows-requires-clause-no_fault g c = c.in-Ok.ensures.starts.2.no_fault
-
-pub gather_rows-requires-clause-suits : goal.gather_rows-requires-clause-suits
-gather_rows-requires-clause-suits g c = c.in-Ok.ensures.starts.2.suits
+pub gather_rows-requires-clause-stands : goal.gather_rows-requires-clause-stands
+gather_rows-requires-clause-stands g c = let s = c.in-Ok.ensures.starts in stands-behind (g.W.Wire.allows c.args.wire.now) c.args.call.starts.now s.0 c.in-Ok.pages c.args.asks.now c.ask_starts.new.asks (g.W.Wire.state c.args.wire.now) (g.W.Wire.state c.ask_starts.new.wire) s.1 s.2 c.requires.starts
 
 pub returns-in-Ok-clause-ok : goal.returns-in-Ok-clause-ok
 returns-in-Ok-clause-ok g c =

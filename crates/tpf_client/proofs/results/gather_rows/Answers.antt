@@ -17,7 +17,7 @@ returns-in-Ok-clause-ok g c =
     record {
       events = j.0;
       joins = subst (λ (l : List Places). Joins (g.W.Wire.allows c.args.wire.now) (most_behind c.args.call.options.now c.args.call.query.now (length c.args.pages.forms)) (sources_of g.E.Evaluates.Source g.E.Evaluates.fits g.E.Evaluates.is_true g.E.Evaluates.rows g.E.Evaluates.plan g.E.Evaluates.reported c.args.call.options.now.block) c.args.call.query.now c.args.call.starts.now c.args.pages.forms (told_at c.args.call.starts.now c.args.pages.versions.items) j.0 l c.args.asks.now c.join_pages.new.asks (g.W.Wire.state c.args.wire.now) (g.W.Wire.state c.join_pages.new.wire)) (sym same) j.2;
-      is_version = c.report_version-version.ensures ∙ ap g.E.Evaluates.reported (first-at c.args.pages.versions.items c.index.result.now c.requires.told c.index.ensures);
+      is_version = c.report_version-version.ensures ∙ ap g.E.Evaluates.reported (first-at c.args.pages.versions.items c.index.result.now c.requires.stands.told c.index.ensures);
       requests = c.started.ensures;
       count = let n = c.len.ensures in omega (arith, n);
     }

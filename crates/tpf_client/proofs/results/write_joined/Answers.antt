@@ -29,24 +29,11 @@ pub returns-in-Err-finish-clause-err : goal.returns-in-Err-finish-clause-err
 returns-in-Err-finish-clause-err g c =
     let j = c.in-Ok.ensures.joins in
     let w = subst (λ (x : Text). WritesRows j.1 x c.join_pages.new.rows (g.K.Sink.state c.args.out.now).taken (g.K.Sink.state c.join_pages.new.behind).taken) c.requires.fresh j.3 in
-    WholeOf j.0 j.1 j.2 (explains-local (told_at c.args.call.starts.now c.args.pages.versions.items) c.args.call.options.now.budget c.of_sink.result j.0 (subst (λ (f : ClientFault). IsLocal f) (sym c.of_sink.ensures) (sink-local c.in-Err-finish.fault)))
-    (part-written c.args.call.query.now j.1 c.join_pages.new.rows _ _ _ c.pieces_make_the_text.ensures w c.in-Err-finish.ensures.writes.err)
-
-pub returns-in-Err-finish-clause-shown : goal.returns-in-Err-finish-clause-shown
-returns-in-Err-finish-clause-shown g c =
-    let j = c.in-Ok.ensures.joins in
-    let w = subst (λ (x : Text). WritesRows j.1 x c.join_pages.new.rows (g.K.Sink.state c.args.out.now).taken (g.K.Sink.state c.join_pages.new.behind).taken) c.requires.fresh j.3 in
     let is = subst (λ (f : ClientFault). IsLocal f) (sym c.of_sink.ensures) (sink-local c.in-Err-finish.fault) in
     (WholeOf j.0 j.1 j.2 (explains-local (told_at c.args.call.starts.now c.args.pages.versions.items) c.args.call.options.now.budget c.of_sink.result j.0 is) (part-written c.args.call.query.now j.1 c.join_pages.new.rows _ _ _ c.pieces_make_the_text.ensures w c.in-Err-finish.ensures.writes.err), is)
 
 pub returns-in-Ok-give-clause-err : goal.returns-in-Ok-give-clause-err
 returns-in-Ok-give-clause-err g c =
-    let s = c.in-Err.ensures.some in
-    let w = subst (λ (x : Text). WritesFront s.1 x c.join_pages.new.rows (g.K.Sink.state c.args.out.now).taken (g.K.Sink.state c.join_pages.new.behind).taken) c.requires.fresh s.3 in
-    PartOf s.0 s.1 s.2 (front-handed c.args.call.query.now s.1 c.join_pages.new.rows _ _ _ w (all-given c.join_pages.new.rows _ _ c.in-Ok-give.ensures.writes.ok))
-
-pub returns-in-Ok-give-clause-shown : goal.returns-in-Ok-give-clause-shown
-returns-in-Ok-give-clause-shown g c =
     let s = c.in-Err.ensures.some in
     let w = subst (λ (x : Text). WritesFront s.1 x c.join_pages.new.rows (g.K.Sink.state c.args.out.now).taken (g.K.Sink.state c.join_pages.new.behind).taken) c.requires.fresh s.3 in
     (PartOf s.0 s.1 s.2 (front-handed c.args.call.query.now s.1 c.join_pages.new.rows _ _ _ w (all-given c.join_pages.new.rows _ _ c.in-Ok-give.ensures.writes.ok)), λ other rose. ⊎_elim (λ l. absurd (other l)) (λ t. rows-shown c.args.call.query.now s.1 c.join_pages.new.rows _ _ _ (subst (λ (x : Text). WritesRows s.1 x c.join_pages.new.rows (g.K.Sink.state c.args.out.now).taken (g.K.Sink.state c.join_pages.new.behind).taken) c.requires.fresh t) c.in-Ok-give.ensures.writes.ok) s.4)
@@ -55,22 +42,10 @@ pub returns-in-Err-Failed-clause-err : goal.returns-in-Err-Failed-clause-err
 returns-in-Err-Failed-clause-err g c =
     let s = c.in-Err.ensures.some in
     let w = subst (λ (x : Text). WritesFront s.1 x c.join_pages.new.rows (g.K.Sink.state c.args.out.now).taken (g.K.Sink.state c.join_pages.new.behind).taken) c.requires.fresh s.3 in
-    PartOf s.0 s.1 s.2 (front-handed c.args.call.query.now s.1 c.join_pages.new.rows _ _ _ w (some-given c.join_pages.new.rows _ _ c.in-Err-Failed.ensures.writes.err))
-
-pub returns-in-Err-Failed-clause-shown : goal.returns-in-Err-Failed-clause-shown
-returns-in-Err-Failed-clause-shown g c =
-    let s = c.in-Err.ensures.some in
-    let w = subst (λ (x : Text). WritesFront s.1 x c.join_pages.new.rows (g.K.Sink.state c.args.out.now).taken (g.K.Sink.state c.join_pages.new.behind).taken) c.requires.fresh s.3 in
     (PartOf s.0 s.1 s.2 (front-handed c.args.call.query.now s.1 c.join_pages.new.rows _ _ _ w (some-given c.join_pages.new.rows _ _ c.in-Err-Failed.ensures.writes.err)), λ other rose. absurd (rose (rose_on _ _ _ c.in-Err.ensures.sink.later (c.in-Err-Failed.ensures.writes.cause.failed (ap (λ (f : Fault). Err f) c.in-Err-Failed.field-0-is)))))
 
 pub returns-in-Err-OutOfMemory-clause-err : goal.returns-in-Err-OutOfMemory-clause-err
 returns-in-Err-OutOfMemory-clause-err g c =
-    let s = c.in-Err.ensures.some in
-    let w = subst (λ (x : Text). WritesFront s.1 x c.join_pages.new.rows (g.K.Sink.state c.args.out.now).taken (g.K.Sink.state c.join_pages.new.behind).taken) c.requires.fresh s.3 in
-    PartOf s.0 s.1 (with-fault _ _ _ _ _ _ _ _ _ _ s.0 s.1 _ _ _ _ tt s.2) (front-handed c.args.call.query.now s.1 c.join_pages.new.rows _ _ _ w (some-given c.join_pages.new.rows _ _ c.in-Err-OutOfMemory.ensures.writes.err))
-
-pub returns-in-Err-OutOfMemory-clause-shown : goal.returns-in-Err-OutOfMemory-clause-shown
-returns-in-Err-OutOfMemory-clause-shown g c =
     let s = c.in-Err.ensures.some in
     let w = subst (λ (x : Text). WritesFront s.1 x c.join_pages.new.rows (g.K.Sink.state c.args.out.now).taken (g.K.Sink.state c.join_pages.new.behind).taken) c.requires.fresh s.3 in
     (PartOf s.0 s.1 (with-fault _ _ _ _ _ _ _ _ _ _ s.0 s.1 _ _ _ _ tt s.2) (front-handed c.args.call.query.now s.1 c.join_pages.new.rows _ _ _ w (some-given c.join_pages.new.rows _ _ c.in-Err-OutOfMemory.ensures.writes.err)), λ other rose. absurd (other tt))

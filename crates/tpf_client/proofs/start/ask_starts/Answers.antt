@@ -11,18 +11,12 @@ use Rattle.tpf_client.proofs.start.ask_starts.Goals as goal
 
 pub loop-start-init : goal.loop-start-init
 loop-start-init g c = record {
-  so = ([], c.new-forms.ensures.items, c.new-versions.ensures.items, starts-none (g.W.Wire.allows c.args.wire.now) c.args.asks.now (g.W.Wire.state c.args.wire.now) c.requires.none c.requires.no_fault c.requires.suits);
+  so = ([], c.new-forms.ensures.items, c.new-versions.ensures.items, starts-none (g.W.Wire.allows c.args.wire.now) c.args.asks.now (g.W.Wire.state c.args.wire.now) c.requires.rest);
   allowed = same-allowed (g.W.Wire.allows c.args.wire.now);
 }
 
-pub ask_start-requires-clause-suits : goal.ask_start-requires-clause-suits
-ask_start-requires-clause-suits g c = c.loop-start.invariant.so.3.suits
-
-pub ask_start-requires-clause-no_fault : goal.ask_start-requires-clause-no_fault
-ask_start-requires-clause-no_fault g c = c.loop-start.invariant.so.3.no_fault
-
-pub ask_start-requires-clause-none : goal.ask_start-requires-clause-none
-ask_start-requires-clause-none g c = c.loop-start.invariant.so.3.none
+pub ask_start-requires : goal.ask_start-requires
+ask_start-requires g c = record { rest = c.loop-start.invariant.so.3.rest }
 
 pub loop-start-preserved : goal.loop-start-preserved
 loop-start-preserved g c =

@@ -8,7 +8,7 @@ use Rattle.group_patterns.proofs.Progressing.{kept-no-sink, block-no-sink}
 use Rattle.group_patterns.proofs.asking.Asking.ask_block.Goals as goal
 
 pub collect_block-requires-clause-bounds : goal.collect_block-requires-clause-bounds
-collect_block-requires-clause-bounds g c = record { window = c.requires.bounds.window; some = c.requires.bounds.some; few = c.requires.bounds.few }
+collect_block-requires-clause-bounds g c = c.requires.bounds
 
 pub keep-requires : goal.keep-requires
 keep-requires g c = record { within = subst (λ (n : ℕ). c.in-Ok.report.requests ≤ n) (ap (λ (p : Progress). p.left) c.self.view_is) c.in-Ok.ensures.ok.acts.within }
