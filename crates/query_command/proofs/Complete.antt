@@ -37,7 +37,7 @@ use Rattle.query_command.specs.declared.generated_query.Counts.{Counts}
 use Rattle.query_command.specs.Blocks.{grammar_of}
 use Rattle.query_command.specs.Files.{FailsByFile, ReadsLocally, KeepsOutput}
 use Rattle.query_command.specs.Answers.{Answers, GivesAnswer, AskCause, AnswersSome, FitsOver, OfQuery, IsWanting, IsClientWanting, SucceedsOver, AsksServer}
-use Rattle.query_command.specs.Generated.{usual_options, GeneratedAnswers, GeneratedCause}
+use Rattle.query_command.specs.Generated.{usual_options, usual_config, GeneratedAnswers, GeneratedCause}
 use Rattle.query_command.specs.Loops.{LocalView, LocalAnswers, LocalCause, GivesData, local_config}
 use Rattle.query_command.specs.Plans.{plan_of, offer_of, SendsInside, RequestsInside, MayFail, RepliesGenerated, EndsCounted, SendsLocally, RequestsLocally, RepliesLocally, EndsByPlan, SucceedsByPlan, OfGenerated, PlanIsWithin, EndsFile, EndsGenerated, HonestFile, HonestGenerated}
 use Rattle.query_command.specs.Commands.{AsksFile, AsksGenerated}
@@ -74,13 +74,13 @@ module _ (shelf shelf' : ShelfState) (view : LocalView) (inside : Option (Looped
 module _ (shelf shelf' : ShelfState) (persons : ℕ) (name : List ℕ) (inside : Option (Looped FragmentServer)) where
   pub generated_complete : (result : Result Counts AnswerFault) → IfErr result (GeneratedCause shelf shelf' persons name inside)
       → QueryDecides grammars.Groups shelf shelf' name (λ outcome. GivesAnswer outcome result)
-      → OfGenerated shelf.told persons name (λ triples q. EndsCounted usual_options triples (local_config usual_options 100) q result)
-      → ¬ (Rose shelf.faults shelf'.faults) → OfGenerated shelf.told persons name (λ triples q. PlanIsWithin 0 usual_options triples (local_config usual_options 100) q → IfErr result IsWanting)
+      → OfGenerated shelf.told persons name (λ triples q. EndsCounted usual_options triples usual_config q result)
+      → ¬ (Rose shelf.faults shelf'.faults) → OfGenerated shelf.told persons name (λ triples q. PlanIsWithin 0 usual_options triples usual_config q → IfErr result IsWanting)
   generated_complete (Ok counts) cause exact ends quiet = λ files is triples q serves holds within. tt
   generated_complete (Err (faults.Data fault)) cause exact ends quiet = λ files is triples q serves holds within. cause.0
   generated_complete (Err (faults.Query fault)) cause exact ends quiet = λ files is triples q serves holds within. query_memory q fault (exact quiet files is (reads q) holds)
   generated_complete (Err (faults.Client fault)) cause exact ends quiet = λ files is triples q serves holds within.
-      is_memory 0 usual_options triples (local_config usual_options 100) (offer_of usual_options triples (local_config usual_options 100) q) (λ address server e. e) (plan_of usual_options triples (local_config usual_options 100) q) fault within cause.0 (ends files is triples q serves holds)
+      is_memory 0 usual_options triples usual_config (offer_of usual_options triples usual_config q) (λ address server e. e) (plan_of usual_options triples usual_config q) fault within cause.0 (ends files is triples q serves holds)
 
 -- ---- over a wire to a server elsewhere
 
@@ -160,8 +160,8 @@ module _ (shelf shelf' : ShelfState) (out out' : SinkState) (inside : Option (Lo
 
 module _ (shelf shelf' : ShelfState) (persons : ℕ) (name : List ℕ) (inside : Option (Looped FragmentServer)) where
   pub asks_generated : (result : Result Counts AnswerFault) → IfOk result (GeneratedAnswers shelf.told persons name inside) → IfErr result (GeneratedCause shelf shelf' persons name inside)
-      → OfGenerated shelf.told persons name (λ triples q. SendsInside usual_options inside triples (local_config usual_options 100) q) → OfGenerated shelf.told persons name (λ triples q. RequestsInside usual_options inside triples (local_config usual_options 100) q)
-      → RepliesGenerated shelf.told persons name inside result → OfGenerated shelf.told persons name (λ triples q. EndsCounted usual_options triples (local_config usual_options 100) q result)
+      → OfGenerated shelf.told persons name (λ triples q. SendsInside usual_options inside triples usual_config q) → OfGenerated shelf.told persons name (λ triples q. RequestsInside usual_options inside triples usual_config q)
+      → RepliesGenerated shelf.told persons name inside result → OfGenerated shelf.told persons name (λ triples q. EndsCounted usual_options triples usual_config q result)
       → EndsGenerated shelf.told persons name inside result → HonestGenerated persons inside result
       → ReadsNamed name shelf shelf' (FailsByFile result) → AsksGenerated shelf shelf' inside persons name result
   asks_generated result ok err sent requested replied ends planned honest named =
@@ -185,6 +185,6 @@ module _ (shelf shelf' : ShelfState) (persons : ℕ) (name : List ℕ) (inside :
       → ReadsNamed name shelf shelf' (FailsByFile {A = Counts} (Err fault)) → AsksGenerated shelf shelf' inside persons name (Err fault)
   counts_none fault none err ends planned honest named =
       asks_generated (Err fault) tt err
-      (λ files is triples q serves holds. subst (λ (made : Option (Looped FragmentServer)). SendsInside usual_options made triples (local_config usual_options 100) q) (sym none) tt)
-      (λ files is triples q serves holds. subst (λ (made : Option (Looped FragmentServer)). RequestsInside usual_options made triples (local_config usual_options 100) q) (sym none) tt)
-      tt (λ files is triples q serves holds. ends triples (local_config usual_options 100) q) planned honest named
+      (λ files is triples q serves holds. subst (λ (made : Option (Looped FragmentServer)). SendsInside usual_options made triples usual_config q) (sym none) tt)
+      (λ files is triples q serves holds. subst (λ (made : Option (Looped FragmentServer)). RequestsInside usual_options made triples usual_config q) (sym none) tt)
+      tt (λ files is triples q serves holds. ends triples usual_config q) planned honest named

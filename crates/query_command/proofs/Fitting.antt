@@ -1,5 +1,5 @@
 -- What a query asks of a server in the same process is answered with pages that are read, within the limits of the program.
-use Rattle.std.proofs.Common.{ℕ, ◌≡◌, ◌≤◌, true, [], ◌∷◌, List, length, Option, sym, subst, ◌∙◌, arith, lit≤}
+use Rattle.std.proofs.Common.{ℕ, ◌≡◌, ◌≤◌, true, [], ◌∷◌, List, length, Option, sym, ap, subst, ◌∙◌, arith, lit≤}
 use Rattle.std.specs.List.{AllByRecursion}
 use Rattle.list_laws.proofs.Each.{all_so, all_both}
 use Rattle.rdf_terms.specs.declared.term.Triple.{Triple}
@@ -17,11 +17,9 @@ use Rattle.plan_laws.specs.Fitting.{IsRead, AreServable, IsAskable, IsServable, 
 use Rattle.tpf_client.specs.Offers.{Publisher, IsVersionOf, publisher, is_served, addresses_in_blocks, offer_in_blocks}
 use Rattle.plan_laws.proofs.Starts.{base_of_start, target_of_start}
 use Rattle.tpf_client.specs.declared.options.Options.{Options}
-use Rattle.tpf_client.specs.Plans.{AtEach, AtChosen, TellsVersions, ChangesVersion, IsAnswerable, IsReadByAll, IsFitAt, ChoiceFits, answer_at}
+use Rattle.tpf_client.specs.Plans.{AtChosen, TellsVersions, IsAnswerable, IsReadByAll, IsFitAt, ChoiceFits, answer_at}
 use Rattle.tpf_client.proofs.Fitting.{where_asked, fit_at, answered_of, read_by_all}
-use Rattle.tpf_client.proofs.Serving.{at-server}
 use Rattle.query_command.specs.Loops.{local_base}
-use Rattle.query_command.specs.Plans.{plan_of, offer_of}
 use Rattle.query_command.specs.Answers.{FitsOver}
 
 pub one_version : (triples : List Triple) (version : ℕ) → IsVersionOf (triples ∷ []) version → 1 ≡ version
@@ -34,13 +32,10 @@ one_version triples version is = same version is.low is.high
 pub one_told : (triples : List Triple) (first other : Option ℕ) → TellsVersions (triples ∷ []) first other → ⊥
 one_told triples first other t = t.differ (sym (one_version triples t.one t.is_one) ∙ one_version triples t.two t.is_two)
 
-pub one_server : (block : ℕ) (triples : List Triple) (config : Config) (q : QueryData) (start : Address) (first other : Option ℕ) → ChangesVersion (offer_in_blocks block (publisher (triples ∷ []) config) q start) first other → ⊥
-one_server block triples config q start first other c = one_told triples first other (subst (λ (p : Publisher). TellsVersions p.history first other) c.stands c.versions)
-
--- what holds of the addresses at the one version holds of those at each
-pub at_version : (block : ℕ) (triples : List Triple) (config : Config) (q : QueryData) (start : Address) (P : List Address → Type 0) (version : ℕ) → IsVersionOf (triples ∷ []) version
-    → P (addresses_in_blocks block (publisher (triples ∷ []) config) q start 1) → P (addresses_in_blocks block (publisher (triples ∷ []) config) q start version)
-at_version block triples config q start P version is h = subst (λ (v : ℕ). P (addresses_in_blocks block (publisher (triples ∷ []) config) q start v)) (one_version triples version is) h
+-- the addresses at each version are those at the one
+pub at_version : (block : ℕ) (triples : List Triple) (config : Config) (q : QueryData) (start : Address) (version : ℕ) → IsVersionOf (triples ∷ []) version
+    → addresses_in_blocks block (publisher (triples ∷ []) config) q start version ≡ addresses_in_blocks block (publisher (triples ∷ []) config) q start 1
+at_version block triples config q start version is = ap (addresses_in_blocks block (publisher (triples ∷ []) config) q start) (sym (one_version triples version is))
 
 module _ (triples : List Triple) (config : Config) where
   abbrev Reads : Address → Type 0
@@ -51,24 +46,6 @@ module _ (triples : List Triple) (config : Config) where
 
   pub read_one : (address : Address) → Reads address → IsReadByAll (publisher (triples ∷ []) config) address
   read_one = read_by_all (publisher (triples ∷ []) config) (one_version triples)
-
-  module _ (options : Options) (q : QueryData) (reads : AllByRecursion Reads (plan_of options triples config q)) where
-    -- by each server that stands at an address, which is the one
-    abbrev EachAnswers : Address → Type 0
-    EachAnswers = AtEach (offer_of options triples config q) IsAnswerable
-
-    abbrev EachReads : Address → Type 0
-    EachReads = AtEach (offer_of options triples config q) IsReadByAll
-
-    pub all_answered : (version : ℕ) → IsVersionOf (triples ∷ []) version → AllByRecursion (AtEach (offer_of options triples config q) IsAnswerable) (addresses_in_blocks options.block (publisher (triples ∷ []) config) q local_base version)
-    all_answered version is =
-        at_version options.block triples config q local_base (AllByRecursion EachAnswers) version is
-        (all_so Reads EachAnswers (λ address r. at-server options.block (publisher (triples ∷ []) config) q local_base IsAnswerable address (answered_one address r)) (plan_of options triples config q) reads)
-
-    pub all_read : (version : ℕ) → IsVersionOf (triples ∷ []) version → AllByRecursion (AtEach (offer_of options triples config q) IsReadByAll) (addresses_in_blocks options.block (publisher (triples ∷ []) config) q local_base version)
-    all_read version is =
-        at_version options.block triples config q local_base (AllByRecursion EachReads) version is
-        (all_so Reads EachReads (λ address r. at-server options.block (publisher (triples ∷ []) config) q local_base IsReadByAll address (read_one address r)) (plan_of options triples config q) reads)
 
 base_short : (base : Address) → base ≡ local_base → length (address_text base) ≤ LONGEST_START
 base_short base is = subst (λ (b : Address). length (address_text b) ≤ LONGEST_START) (sym is) (lit≤ tt)

@@ -14,6 +14,7 @@ use Rattle.group_parser.specs.declared.reading.Asked.{Asked}
 use Rattle.group_parser.specs.declared.reading.Asked.TheVariants.{Plain, Groups}
 use Rattle.loop_wire.specs.Looped.{Looped}
 use Rattle.fragment_server.specs.declared.server.FragmentServer.{FragmentServer}
+use Rattle.generated_data.specs.declared.limits.TheConstants.{MOST_PERSONS}
 use Rattle.generated_server.specs.Starts.{StartsGenerated}
 use Rattle.plan_laws.specs.Fitting.{AreServable, PlansAreRead, StartsAreRead}
 use Rattle.tpf_client.specs.declared.options.Options.{Options}
@@ -29,14 +30,15 @@ use Rattle.data_files.proofs.Outcomes.{one_outcome, one_query}
 use Rattle.file_server.specs.Servers.{Starts, serving}
 use Rattle.query_command.specs.declared.fault.AnswerFault.TheVariants as faults
 use Rattle.query_command.specs.declared.generated_query.Counts.{Counts}
+use Rattle.query_command.specs.declared.local_query.OverWire.{OverWire}
 use Rattle.query_command.specs.Blocks.{grammar_of}
 use Rattle.query_command.specs.Files.{FailsByFile, ReadsLocally}
 use Rattle.query_command.specs.Limits.{FilesAreServable, GeneratedAreServable, GroupsAreAskable}
 use Rattle.query_command.specs.Loops.{LocalView, IsServing, local_config}
-use Rattle.query_command.specs.Generated.{usual_options}
+use Rattle.query_command.specs.Generated.{usual_options, usual_config}
 use Rattle.query_command.specs.Groups.{group_plan_of, group_offer_of, AsksServerGroups, AsksFileGroups, AsksGeneratedGroups, CountsGroup, WritesGroupAnswer}
-use Rattle.query_command.specs.Over.{AreValidBlocks, AreAskableBlocks, AsksGroups, AsksGeneratedOver}
-use Rattle.query_command.proofs.Counting.{never_rose}
+use Rattle.query_command.specs.Over.{AreValidBlocks, AreAskableBlocks, IsUsual, AsksGroups, AsksGeneratedOver}
+use Rattle.query_command.proofs.Counting.{never_rose, usually}
 use Rattle.query_command.proofs.GroupPlans.{group_fits}
 use Rattle.query_command.proofs.Planned.{is_memory}
 use Rattle.query_command.proofs.GroupLooping.{Called, wrote, failed}
@@ -147,15 +149,19 @@ module _ (shelf shelf' : ShelfState) (name : List ℕ) (allows : List ℕ → �
 
 -- ---- generated data
 
-abbrev Counted : FragmentServer → Options → GroupData → Result Report ClientFault → Option (Looped FragmentServer) → SinkState → SinkState → Type 0
-Counted server options g result inside out out' = AsksGroups server 0 0 options g result inside out out'
+-- a sink that tells nothing, and never failed
+abbrev pub none_taken : SinkState
+none_taken = record { taken = None; faults = 0; faultless = true }
 
-module _ (server : FragmentServer) (persons : ℕ) (starts : StartsGenerated persons (local_config usual_options 100) (serving server)) (g : GroupData) (options : Options) (is : options ≡ usual_options) (inside : Option (Looped FragmentServer)) where
+module _ (server : FragmentServer) (persons : ℕ) (starts : StartsGenerated persons usual_config (serving server)) (g : GroupData) (over : OverWire) (is : IsUsual over) (inside : Option (Looped FragmentServer)) where
   usual_small : usual_options.budget < 2 ^ 63
   usual_small = omega arith
 
-  usual : (result : Result Report ClientFault) (out out' : SinkState) → Counted server options g result inside out out' → Counted server usual_options g result inside out out'
-  usual result out out' a = subst (λ (o : Options). Counted server o g result inside out out') is a
+  -- what is said of the call that was made is said of the usual one, whose result was counted
+  usual : (result : Result Report ClientFault) (drain : SinkState) → drain ≡ none_taken → AsksGroups server over.seed over.fail_every over.options g result inside drain drain → AsksGroups server 0 0 usual_options g result inside none_taken none_taken
+  usual result drain empty a =
+      subst (λ (s : SinkState). AsksGroups server 0 0 usual_options g result inside s s) empty
+      (usually server over is (λ seed n options. AsksGroups server seed n options g result inside drain drain) a)
 
   group_counts : (triples rows : ℕ) → triples ≡ length (serving server).data_set → WritesGroupAnswer (serving server).data_set g rows None None → CountsGroup persons g (record { triples = triples; rows = rows })
   group_counts triples rows e w = record {
@@ -165,10 +171,10 @@ module _ (server : FragmentServer) (persons : ℕ) (starts : StartsGenerated per
     rows_are = w.count ∙ ap (λ n. counted_by n 0) (length_permutation (answers (serving server).data_set g) w.rows w.rows_are);
   }
 
-  pub counted_ok : (drain : SinkState) (triples : ℕ) (report : Report) → drain ≡ record { taken = None; faults = 0; faultless = true } → triples ≡ length (serving server).data_set → Counted server options g (Ok report) inside drain drain
+  pub counted_ok : (drain : SinkState) (triples : ℕ) (report : Report) → drain ≡ none_taken → triples ≡ length (serving server).data_set → AsksGroups server over.seed over.fail_every over.options g (Ok report) inside drain drain
       → AsksGeneratedOver server persons g (Ok (record { triples = triples; rows = report.rows })) inside
   counted_ok drain triples report empty e call =
-      let a = subst (λ (s : SinkState). Counted server usual_options g (Ok report) inside s s) empty (usual (Ok report) drain drain call) in
+      let a = usual (Ok report) drain empty call in
       record {
         valid = a.valid;
         counts = group_counts triples report.rows e a.answer;
@@ -184,9 +190,9 @@ module _ (server : FragmentServer) (persons : ℕ) (starts : StartsGenerated per
         honest = a.honest;
       }
 
-  pub counted_err : (drain : SinkState) (fault : ClientFault) → drain ≡ record { taken = None; faults = 0; faultless = true } → Counted server options g (Err fault) inside drain drain → AsksGeneratedOver server persons g (Err fault) inside
+  pub counted_err : (drain : SinkState) (fault : ClientFault) → drain ≡ none_taken → AsksGroups server over.seed over.fail_every over.options g (Err fault) inside drain drain → AsksGeneratedOver server persons g (Err fault) inside
   counted_err drain fault empty call =
-      let a = subst (λ (s : SinkState). Counted server usual_options g (Err fault) inside s s) empty (usual (Err fault) drain drain call) in
+      let a = usual (Err fault) drain empty call in
       record {
         valid = a.valid;
         counts = tt;
@@ -198,7 +204,7 @@ module _ (server : FragmentServer) (persons : ℕ) (starts : StartsGenerated per
         honest = a.honest;
       }
 
-module _ (shelf shelf' : ShelfState) (persons : ℕ) (name : List ℕ) (inside : Option (Looped FragmentServer)) (server : FragmentServer) (starts : StartsGenerated persons (local_config usual_options 100) (serving server)) (g : GroupData) (is_read : IsOfGroupFile grammars.Groups shelf.told name g) where
+module _ (shelf shelf' : ShelfState) (persons : ℕ) (name : List ℕ) (inside : Option (Looped FragmentServer)) (server : FragmentServer) (starts : StartsGenerated persons usual_config (serving server)) (g : GroupData) (is_read : IsOfGroupFile grammars.Groups shelf.told name g) where
   pub generated_ok : (counts : Counts) → AsksGeneratedOver server persons g (Ok counts) inside → ReadsNamed name shelf shelf' (FailsByFile {A = Counts} (Ok counts)) → AsksGeneratedGroups shelf shelf' inside persons name (Ok counts) g
   generated_ok counts a named = record {
     is_read = is_read;
@@ -213,7 +219,7 @@ module _ (shelf shelf' : ShelfState) (persons : ℕ) (name : List ℕ) (inside :
     reads = named;
   }
 
-  pub generated_err : GeneratedAreServable → GroupsAreAskable → persons ≤ 1000000 → (fault : ClientFault) → AsksGeneratedOver server persons g (Err fault) inside → ReadsNamed name shelf shelf' (FailsByFile {A = Counts} (Err (faults.Client fault)))
+  pub generated_err : GeneratedAreServable → GroupsAreAskable → persons ≤ MOST_PERSONS → (fault : ClientFault) → AsksGeneratedOver server persons g (Err fault) inside → ReadsNamed name shelf shelf' (FailsByFile {A = Counts} (Err (faults.Client fault)))
       → AsksGeneratedGroups shelf shelf' inside persons name (Err (faults.Client fault)) g
   generated_err data_law groups_law most fault a named =
       let e = a.ends (data_law persons (serving server).data_set most starts.data_set) (groups_law grammars.Groups is_read.files name g is_read.holds a.valid) in

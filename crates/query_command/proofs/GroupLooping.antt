@@ -10,6 +10,7 @@ use Rattle.template_fill.specs.Configurations.{IsConfig, IsValidDataSet}
 use Rattle.group_query.specs.Trees.{GroupData}
 use Rattle.group_rows.specs.Evaluation.{answers}
 use Rattle.group_patterns.specs.Texts.{WritesGroup, WritesGroupPrefix, WritesGroupAnswers, WritesGroupAnswersFront}
+use Rattle.group_patterns.specs.Acts.{IsGroupCause}
 use Rattle.group_patterns.specs.Plans.{group_offer}
 use Rattle.group_patterns.specs.Ended.{EndsGroups}
 use Rattle.group_patterns.specs.Still.{GroupSucceedsStill}
@@ -20,16 +21,16 @@ use Rattle.tpf_client.specs.declared.options.Options.{Options}
 use Rattle.tpf_client.specs.declared.options.Report.{Report}
 use Rattle.tpf_client.specs.declared.fault.ClientFault.{ClientFault}
 use Rattle.tpf_client.specs.Honest.{IsHonestWire}
-use Rattle.tpf_client.specs.Offers.{Publisher, publisher}
+use Rattle.tpf_client.specs.Offers.{publisher}
 use Rattle.tpf_client.specs.Plans.{OverHonest, RisesFew, PlanFits, MayStill}
 use Rattle.tpf_client.specs.Sinks.{LeavesSink}
 use Rattle.file_server.specs.Servers.{serving}
 use Rattle.query_command.specs.Loops.{LoopsServer, allows_of, wire_of, begun, local_base}
-use Rattle.query_command.specs.Groups.{WritesGroupOver, FailsGroupOver, WritesGroupAnswer, WritesGroupAnswerFront, WritesGroupLooped, FailsGroupLooped, EndsGroupOver, CountsGroupOver, AsksGroupPlan, AnswersGroupPlan}
+use Rattle.query_command.specs.Groups.{WritesGroupOver, FailsGroupOver, WritesGroupAnswer, WritesGroupAnswerFront, WritesGroupLooped, FailsGroupLooped, EndsGroupOver, CountsGroupOver, AsksGroupPlan, AnswersGroupPlan, group_plan_of, group_offer_of}
 use Rattle.query_command.specs.Over.{AreValidBlocks, AreAskableBlocks, AsksGroups}
 use Rattle.query_command.proofs.Honest.{honest_wire, loops_honest, version_is}
-use Rattle.query_command.proofs.GroupPlans.{group_is_read}
-use Rattle.query_command.proofs.GroupPlanned.{counts_group, may_end_group}
+use Rattle.query_command.proofs.Ending.{are_read_all, published, counts_plan, may_end_by}
+use Rattle.query_command.proofs.GroupPlans.{same_plan, group_is_read}
 
 -- what the call for a query with groups promises
 pub record Called (allows : List ℕ → ℕ → List ℕ → List ℕ → Type 0) (g : GroupData) (options : Options) (result : Result Report ClientFault) (since now : WireState) (out out' : SinkState) (start : Address) : Type 0 where
@@ -93,19 +94,22 @@ module _ (server : FragmentServer) (seed n : ℕ) (after : Looped FragmentServer
   front_here (Ok report) k = tt
   front_here (Err fault) k = front_of_one (serving server).data_set g out.taken out'.taken (k.prefix ((serving server).data_set ∷ []) (serving server).config honest)
 
-  abbrev server_is : Publisher
-  server_is = publisher ((serving server).data_set ∷ []) (serving server).config
-
   asked_here : (result : Result Report ClientFault) → Called_here result → LoopsServer server seed n (Some after) (AsksGroupPlan options g)
-  asked_here result k = record { after = after; is_inside = refl; says = record { asked = k.ended.acts.plan.asked server_is honest; requested = k.ended.acts.plan.requested server_is honest } }
+  asked_here result k = record { after = after; is_inside = refl; says = record { asked = k.ended.acts.plan.asked (published server) honest; requested = k.ended.acts.plan.requested (published server) honest } }
 
   replied_here : (result : Result Report ClientFault) → Called_here result → IfOk result (λ report. LoopsServer server seed n (Some after) (AnswersGroupPlan options g report))
-  replied_here (Ok report) k = record { after = after; is_inside = refl; says = k.ended.acts.plan.replied server_is honest }
+  replied_here (Ok report) k = record { after = after; is_inside = refl; says = k.ended.acts.plan.replied (published server) honest }
   replied_here (Err fault) k = tt
 
   counted_here : CountsDue after.counts.failing after.counts.dials after.counts.faults after.provoked → (result : Result Report ClientFault) → Called_here result → options.budget < 2 ^ 63
       → IfOk result (λ report. LoopsServer server seed n (Some after) (CountsGroupOver n options g report))
-  counted_here due (Ok report) k small = record { after = after; is_inside = refl; says = counts_group server seed n after g options honest due small out.faults out'.faults report k.ended.acts }
+  counted_here due (Ok report) k small = record {
+    after = after;
+    is_inside = refl;
+    says =
+        let acts = k.ended.acts in
+        counts_plan server seed n after options (λ p. group_offer p g local_base) (group_plan_of (serving server).data_set (serving server).config g) _ (same_plan (serving server).data_set (serving server).config g local_base) honest due small acts.moves acts.dials report acts.plan;
+  }
   counted_here due (Err fault) k small = tt
 
   ends_here : PlansAreRead → BasesAreRead → (serving server).config.base ≡ local_base → IsValidDataSet (serving server).data_set → IsConfig (serving server).config
@@ -115,7 +119,12 @@ module _ (server : FragmentServer) (seed n : ℕ) (after : Looped FragmentServer
   ends_here plans bases base valid config due (Err fault) k servable askable small = record {
     after = after;
     is_inside = refl;
-    says = may_end_group server seed n after g options honest (group_is_read plans bases (serving server).data_set (serving server).config g base valid config servable askable) due small out.faults out'.faults fault k.ended.acts;
+    says =
+        let acts = k.ended.acts in
+        may_end_by server seed n after options (λ p. group_offer p g local_base) (group_plan_of (serving server).data_set (serving server).config g) _ (same_plan (serving server).data_set (serving server).config g local_base) honest due small acts.moves acts.dials
+        (are_read_all (serving server).data_set (serving server).config (group_offer_of (serving server).data_set (serving server).config g) (λ address p stands. stands) (group_plan_of (serving server).data_set (serving server).config g)
+        (group_is_read plans bases (serving server).data_set (serving server).config g base valid config servable askable)) fault acts.plan
+        (λ most is. subst (IsGroupCause options (wire_of (begun server seed n)) (wire_of after) out.faults out'.faults) is acts.cause);
   }
 
 pub asks_groups : (server : FragmentServer) (seed n : ℕ) (old after : Looped FragmentServer) → old ≡ begun server seed n → (g : GroupData) (options : Options) (start : Address) → start ≡ local_base → (result : Result Report ClientFault) (out out' : SinkState)

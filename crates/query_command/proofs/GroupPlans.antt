@@ -1,5 +1,5 @@
 -- The plan of a query with groups over one data set is that of its blocks, each over it, and is answered with pages that are read.
-use Rattle.std.proofs.Common.{ℕ, ◌≡◌, ◌+◌, ◌≤◌, ◌++◌, [], ◌∷◌, List, length, map, Option, refl, sym, ap, ap₂, subst, arith}
+use Rattle.std.proofs.Common.{ℕ, ◌≡◌, ◌+◌, ◌≤◌, ◌++◌, [], ◌∷◌, List, length, map, refl, sym, ap, ap₂, subst, arith}
 use Rattle.std.specs.List.{AllByRecursion, flat_map}
 use Rattle.list_laws.proofs.Each.{all_append, all_so}
 use Rattle.list_laws.proofs.Members.{from_map}
@@ -17,11 +17,11 @@ use Rattle.group_patterns.specs.Plans.{AreVersions, group_plan, group_offer, pla
 use Rattle.plan_laws.specs.Fitting.{IsRead, AreServable, IsAskable, PlansAreRead, BasesAreRead, StartsAreRead}
 use Rattle.tpf_client.specs.Offers.{Publisher, publisher, IsVersionOf, addresses_of}
 use Rattle.tpf_client.specs.declared.options.Options.{Options}
-use Rattle.tpf_client.specs.Plans.{AtEach, AtChosen, IsAnswerable, IsReadByAll, IsFitAt, ChoiceFits, TellsVersions, ChangesVersion}
+use Rattle.tpf_client.specs.Plans.{AtChosen, IsFitAt, ChoiceFits}
 use Rattle.query_command.specs.Loops.{local_base}
 use Rattle.query_command.specs.Groups.{FitsGroupOver}
 use Rattle.query_command.specs.Over.{AreAskableBlocks}
-use Rattle.query_command.proofs.Fitting.{one_version, one_told, answered_one, read_one, one_row, plan_is_read, version_plan_is_read, fit_all}
+use Rattle.query_command.proofs.Fitting.{one_version, one_row, plan_is_read, version_plan_is_read, fit_all}
 
 module _ (p : Publisher) (start : Address) (names : List (List ℕ)) where
   abbrev plan_at : ℕ → List Pattern → List Address
@@ -54,29 +54,6 @@ each_one triples (v ∷ vs) h = (one_version triples v h.0, each_one triples vs 
 module _ (triples : List Triple) (config : Config) (g : GroupData) (start : Address) where
   pub same_plan : (vs : List ℕ) → AreVersions (triples ∷ []) g vs → plan_over (publisher (triples ∷ []) config) g start vs ≡ group_plan (publisher (triples ∷ []) config) g start 1
   same_plan vs a = one_flat (publisher (triples ∷ []) config) start g.names 1 (blocks_of (group_tree g)) vs (each_one triples vs a.each) a.count
-
-  -- what holds of the plan at the one version holds of it over each
-  pub over_each : (P : List Address → Type 0) (vs : List ℕ) → AreVersions (triples ∷ []) g vs → P (group_plan (publisher (triples ∷ []) config) g start 1) → P (plan_over (publisher (triples ∷ []) config) g start vs)
-  over_each P vs a h = subst P (sym (same_plan vs a)) h
-
-  -- of each address, by each server that stands there, which is the one
-  pub at_each : (P : Publisher → Address → Type 0) → ((address : Address) → P (publisher (triples ∷ []) config) address → AtEach (group_offer (publisher (triples ∷ []) config) g start) P address)
-  at_each P address h = λ server stands. subst (λ (p : Publisher). P p address) (sym stands) h
-
-  module _ (reads : AllByRecursion (IsRead (triples ∷ []) (Served 1) config) (group_plan (publisher (triples ∷ []) config) g start 1)) where
-    pub group_answered : AllByRecursion (AtEach (group_offer (publisher (triples ∷ []) config) g start) IsAnswerable) (group_plan (publisher (triples ∷ []) config) g start 1)
-    group_answered =
-        all_so (IsRead (triples ∷ []) (Served 1) config) (AtEach (group_offer (publisher (triples ∷ []) config) g start) IsAnswerable) (λ address r. at_each IsAnswerable address (answered_one triples config address r))
-        (group_plan (publisher (triples ∷ []) config) g start 1) reads
-
-    pub group_read : AllByRecursion (AtEach (group_offer (publisher (triples ∷ []) config) g start) IsReadByAll) (group_plan (publisher (triples ∷ []) config) g start 1)
-    group_read =
-        all_so (IsRead (triples ∷ []) (Served 1) config) (AtEach (group_offer (publisher (triples ∷ []) config) g start) IsReadByAll) (λ address r. at_each IsReadByAll address (read_one triples config address r))
-        (group_plan (publisher (triples ∷ []) config) g start 1) reads
-
-  -- no two versions of the one data set are told
-  pub one_group_server : (first other : Option ℕ) → ChangesVersion (group_offer (publisher (triples ∷ []) config) g start) first other → ⊥
-  one_group_server first other c = one_told triples first other (subst (λ (p : Publisher). TellsVersions p.history first other) c.stands c.versions)
 
 -- over a wire in the process
 pub group_is_read : PlansAreRead → BasesAreRead → (triples : List Triple) (config : Config) (g : GroupData) → config.base ≡ local_base → IsValidDataSet triples → IsConfig config → AreServable triples

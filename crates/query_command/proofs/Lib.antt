@@ -6,6 +6,7 @@ pub mod Locals
 pub mod Counting
 pub mod Failing
 pub mod Fitting
+pub mod Ending
 pub mod Planned
 pub mod Bounded
 pub mod GroupTerms
@@ -13,6 +14,5 @@ pub mod Complete
 pub mod Opening
 pub mod ValidBlocks
 pub mod GroupPlans
-pub mod GroupPlanned
 pub mod GroupLooping
 pub mod GroupFiles

@@ -2,6 +2,7 @@
 use Rattle.std.proofs.Common.{ℕ, ◌≡◌, ◌<◌, ◌^◌, Bool, List, Option, Result, codes, sym, ap, subst, ◌∙◌, arith}
 use Rattle.std.specs.List.{AllByRecursion}
 use Rattle.rdf_terms.specs.declared.term.Triple.{Triple}
+use Rattle.triple_table.specs.declared.choice.Choice.{Choice}
 use Rattle.template_fill.specs.Metadata.{Config}
 use Rattle.tpf_base.specs.Outside.{ShelfState}
 use Rattle.tpf_base.specs.Wrote.{SinkState}
@@ -14,6 +15,7 @@ use Rattle.plan_laws.specs.Fitting.{AreServable, IsAskable}
 use Rattle.tpf_client.specs.declared.options.Options.{Options}
 use Rattle.tpf_client.specs.declared.options.Report.{Report}
 use Rattle.tpf_client.specs.declared.fault.ClientFault.{ClientFault}
+use Rattle.tpf_client.specs.Bounds.{SuitsCalls}
 use Rattle.data_files.specs.declared.fault.QueryFileFault.{QueryFileFault}
 use Rattle.data_files.specs.declared.fault.QueryFileFault.TheVariants as query_faults
 use Rattle.data_files.specs.declared.query.Grammar.{Grammar}
@@ -23,7 +25,9 @@ use Rattle.data_files.proofs.Outcomes.{one_outcome, one_query}
 use Rattle.data_files.specs.Causes.{QueryCause}
 use Rattle.file_server.specs.Servers.{Starts, serving}
 use Rattle.data_files.specs.Kept.{KeepsShelf}
+use Rattle.query_command.specs.declared.local_query.OverWire.{OverWire}
 use Rattle.query_command.specs.Blocks.{in_blocks, grammar_of}
+use Rattle.query_command.specs.Over.{MayAsk}
 use Rattle.query_command.specs.Answers.{AnswersSome}
 use Rattle.query_command.specs.Limits.{FilesAreServable, QueriesAreAskable}
 use Rattle.tpf_client.specs.Requested.{AnswersPlan}
@@ -37,6 +41,16 @@ same_data one other e = cc
 -- a configuration that reads rows where the client sends them
 pub is_config : (page : ℕ) (rows : Bool) (options : Options) (config : Config) → config ≡ config_of page rows → rows ≡ in_blocks options → config ≡ local_config options page
 is_config page rows options config is blocks = is ∙ ap (config_of page) blocks
+
+-- the server of a file may be asked from its base
+pub may_ask : (over : OverWire) (server : FragmentServer) (told : Option Files) (name : List ℕ) (choice : Choice) (config : Config) (page : ℕ) → over.start.now ≡ local_base → SuitsCalls over.options
+    → Starts told name choice config (serving server) → config ≡ local_config over.options page → MayAsk over server
+may_ask over server told name choice config page start bounds starts is = record {
+  start = start;
+  first = starts.version;
+  base = ap (λ (c : Config). c.base) (starts.config_is ∙ is);
+  bounds = bounds;
+}
 
 -- the patterns of a query are valid
 pub valid_read : (q : QueryData) (patterns : List Pattern) → patterns ≡ q.patterns → AllByRecursion IsValidPattern patterns → AllByRecursion IsValidPattern q.patterns

@@ -99,7 +99,7 @@ IsClientWanting (faults.Data fault) = Unit {0}
 IsClientWanting (faults.Query fault) = Unit {0}
 IsClientWanting (faults.Client fault) = fault ≡ client_faults.OutOfMemory
 
--- Nothing stands in the way of a call over a wire that has these addresses to ask for over one version: at the start the other end answers, over this version of its data, as a server of these within the limits of the program does; the wire tells all, and never 1000 waits follow one another; the server has the authority of the start, and this version answers it with the status 200; the faults rise at most as often as a request may be asked again; each body of the addresses is within the limit; and the addresses and the rise are within the budget.
+-- Nothing stands in the way of a call over a wire that has these addresses to ask for over one version: at the start the other end answers, over this version of its data, as a server of these within the limits of the program does; the wire tells all, and fewer than MOST_IDLE (1000) waits follow one another; the server has the authority of the start, and this version answers it with the status 200; the faults rise at most as often as a request may be asked again; each body of the addresses is within the limit; and the addresses and the rise are within the budget.
 pub record FitsCall (allows : List ℕ → ℕ → List ℕ → List ℕ → Type 0) (start : Address) (options : Options) (p : Publisher) (version : ℕ) (addresses : List Address) (old new : WireState) : Type 0 where
   pub answers : AnswersOver allows start p version
   pub tells : old.nature.tells ≡ All

@@ -14,8 +14,8 @@ use Rattle.query_command.specs.declared.generated_query.Counts.{Counts}
 use Rattle.query_command.specs.Files.{FailsByFile, ReadsLocally, KeepsOutput}
 use Rattle.query_command.specs.Blocks.{grammar_of}
 use Rattle.query_command.specs.Answers.{GivesAnswer, IsWanting}
-use Rattle.query_command.specs.Loops.{LocalView, LocalAnswers, LocalCause, GivesData, local_config}
-use Rattle.query_command.specs.Generated.{GeneratedAnswers, GeneratedCause, usual_options}
+use Rattle.query_command.specs.Loops.{LocalView, LocalAnswers, LocalCause, GivesData}
+use Rattle.query_command.specs.Generated.{GeneratedAnswers, GeneratedCause, usual_options, usual_config}
 use Rattle.query_command.specs.Plans.{SendsInside, RequestsInside, RepliesGenerated, EndsCounted, OfGenerated, PlanIsWithin, SendsLocally, RequestsLocally, RepliesLocally, EndsByPlan, SucceedsByPlan, EndsFile, EndsGenerated, HonestFile, HonestGenerated}
 
 -- The query of a file, asked of a file of data.
@@ -39,12 +39,12 @@ pub record AsksGenerated (shelf shelf' : ShelfState) (inside : Option (Looped Fr
   pub answers : IfOk result (GeneratedAnswers shelf.told persons name inside)
   pub cause : IfErr result (GeneratedCause shelf shelf' persons name inside)
   pub exact : QueryDecides grammars.Groups shelf shelf' name (λ outcome. GivesAnswer outcome result)
-  pub sent : OfGenerated shelf.told persons name (λ triples q. SendsInside usual_options inside triples (local_config usual_options 100) q)
-  pub requested : OfGenerated shelf.told persons name (λ triples q. RequestsInside usual_options inside triples (local_config usual_options 100) q)
+  pub sent : OfGenerated shelf.told persons name (λ triples q. SendsInside usual_options inside triples usual_config q)
+  pub requested : OfGenerated shelf.told persons name (λ triples q. RequestsInside usual_options inside triples usual_config q)
   pub replied : RepliesGenerated shelf.told persons name inside result
-  pub ends : OfGenerated shelf.told persons name (λ triples q. EndsCounted usual_options triples (local_config usual_options 100) q result)
+  pub ends : OfGenerated shelf.told persons name (λ triples q. EndsCounted usual_options triples usual_config q result)
   pub planned : EndsGenerated shelf.told persons name inside result
   pub honest : HonestGenerated persons inside result
   pub complete : ¬ (Rose shelf.faults shelf'.faults)
-      → OfGenerated shelf.told persons name (λ triples q. PlanIsWithin 0 usual_options triples (local_config usual_options 100) q → IfErr result IsWanting)
+      → OfGenerated shelf.told persons name (λ triples q. PlanIsWithin 0 usual_options triples usual_config q → IfErr result IsWanting)
   pub reads : ReadsNamed name shelf shelf' (FailsByFile result)

@@ -3,6 +3,8 @@ use Rattle.std.specs.Prelude.{ℕ, ◌≡◌, ◌≢◌, List, length, codes, Op
 use Rattle.rdf_terms.specs.declared.term.Triple.{Triple}
 use Rattle.tpf_base.specs.Causes.{counted_by}
 use Rattle.tpf_base.specs.Outside.{ShelfState}
+use Rattle.tpf_base.specs.declared.usual.TheConstants.{USUAL_WINDOW, USUAL_LINKS, USUAL_RETRIES, USUAL_BUDGET, USUAL_BODY, USUAL_PAGE}
+use Rattle.template_fill.specs.Metadata.{Config}
 use Rattle.bgp_core.specs.Queries.{QueryData}
 use Rattle.triple_table.specs.declared.choice.Choice.TheVariants.{DefaultGraph}
 use Rattle.triple_table.specs.Chosen.{chosen}
@@ -30,7 +32,11 @@ use Rattle.query_command.specs.Loops.{LoopsServer, local_base, local_config, all
 
 -- what bounds a call where no option is given
 abbrev pub usual_options : Options
-usual_options = record { window = 16; block = 1; links = 8; retries = 2; budget = 1000000; max_body = 16777216 }
+usual_options = record { window = USUAL_WINDOW; block = 1; links = USUAL_LINKS; retries = USUAL_RETRIES; budget = USUAL_BUDGET; max_body = USUAL_BODY }
+
+-- the configuration of the server that is asked then
+abbrev pub usual_config : Config
+usual_config = local_config usual_options USUAL_PAGE
 
 -- ---- the numbers
 
@@ -49,10 +55,10 @@ pub record CountsFile (told : Option Files) (persons : ℕ) (query_name : List �
 
 -- ---- the wire inside
 
--- A wire was made for a server of the data of so many persons, on pages of 100 triples, of the seed 0, on which no dial fails; and this is said of it as it was made and as it was left.
+-- A wire was made for a server of the data of so many persons, on pages of USUAL_PAGE (100) triples, of the seed 0, on which no dial fails; and this is said of it as it was made and as it was left.
 pub record LoopsGenerated (persons : ℕ) (inside : Option (Looped FragmentServer)) (Says : Looped FragmentServer → Looped FragmentServer → Type 0) : Type 0 where
   pub server : FragmentServer
-  pub starts : StartsGenerated persons (local_config usual_options 100) (serving server)
+  pub starts : StartsGenerated persons usual_config (serving server)
   pub loops : LoopsServer server 0 0 inside Says
 
 -- a query was asked over a wire to the end, with so many rows; what was written is not told

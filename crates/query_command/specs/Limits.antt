@@ -6,6 +6,7 @@ use Rattle.triple_table.specs.declared.choice.Choice.{Choice}
 use Rattle.triple_table.specs.declared.choice.Choice.TheVariants.{DefaultGraph}
 use Rattle.triple_table.specs.Chosen.{chosen}
 use Rattle.triple_table.specs.Served.{IsServed}
+use Rattle.generated_data.specs.declared.limits.TheConstants.{MOST_PERSONS}
 use Rattle.generated_data.specs.Generated.{generated}
 use Rattle.bgp_core.specs.Queries.{QueryData, IsValidPattern}
 use Rattle.plan_laws.specs.Fitting.{AreServable, IsAskable}
@@ -20,7 +21,7 @@ FilesAreServable = (files : Files) (name : List ℕ) (choice : Choice) (triples 
 
 -- the generated data
 abbrev pub GeneratedAreServable : Type 0
-GeneratedAreServable = (persons : ℕ) (triples : List Triple) → persons ≤ 1000000 → IsServed (codes "localhost") (chosen DefaultGraph (generated persons)) triples → AreServable triples
+GeneratedAreServable = (persons : ℕ) (triples : List Triple) → persons ≤ MOST_PERSONS → IsServed (codes "localhost") (chosen DefaultGraph (generated persons)) triples → AreServable triples
 
 -- the patterns of the query that a file holds
 abbrev pub QueriesAreAskable : Type 0

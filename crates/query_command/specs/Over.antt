@@ -13,10 +13,12 @@ use Rattle.tpf_client.specs.declared.options.Options.{Options}
 use Rattle.tpf_client.specs.declared.options.Report.{Report}
 use Rattle.tpf_client.specs.declared.fault.ClientFault.{ClientFault}
 use Rattle.tpf_client.specs.declared.fault.ClientFault.TheVariants as client_faults
+use Rattle.tpf_client.specs.Bounds.{SuitsCalls}
 use Rattle.data_files.specs.Kept.{KeepsSink}
 use Rattle.file_server.specs.Servers.{serving}
 use Rattle.query_command.specs.declared.generated_query.Counts.{Counts}
-use Rattle.query_command.specs.Loops.{LoopsServer, LeavesHonest}
+use Rattle.query_command.specs.declared.local_query.OverWire.{OverWire}
+use Rattle.query_command.specs.Loops.{LoopsServer, LeavesHonest, local_base}
 use Rattle.query_command.specs.Generated.{LoopsGenerated, usual_options}
 use Rattle.query_command.specs.Groups.{WritesGroupAnswer, WritesGroupAnswerFront, WritesGroupLooped, FailsGroupLooped, EndsGroupOver, CountsGroupOver, AsksGroupPlan, AnswersGroupPlan, AnswersGroupRows, CountsGroup, AsksGroupOver, FailsGroupOn}
 
@@ -35,6 +37,19 @@ AreValidBlocks g = AllByRecursion (AllByRecursion IsValidPattern) (blocks_of (gr
 -- the patterns of all blocks are within the limits under which plans are read
 abbrev pub AreAskableBlocks : GroupData → Type 0
 AreAskableBlocks g = AllByRecursion (AllByRecursion IsAskable) (blocks_of (group_tree g))
+
+-- What is asked over a wire that is made for a server may be asked of it: from its base, on which version 1 stands, within the bounds that calls need.
+pub record MayAsk (over : OverWire) (server : FragmentServer) : Type 0 where
+  pub start : over.start.now ≡ local_base
+  pub first : (serving server).version ≡ 1
+  pub base : (serving server).config.base ≡ local_base
+  pub bounds : SuitsCalls over.options
+
+-- It is asked as where no option is given: over a wire of the seed 0, on which no dial fails.
+pub record IsUsual (over : OverWire) : Type 0 where
+  pub options : over.options ≡ usual_options
+  pub seed : over.seed ≡ 0
+  pub fail_every : over.fail_every ≡ 0
 
 -- The query was asked over a wire that was made for the server, and the text of its answers over the server's data written, or a front of it; the wire is left.
 pub record AsksGroups (server : FragmentServer) (seed fail_every : ℕ) (options : Options) (g : GroupData) (result : Result Report ClientFault) (inside : Option (Looped FragmentServer)) (out out' : SinkState) : Type 0 where

@@ -30,7 +30,7 @@ use Rattle.query_command.specs.declared.fault.AnswerFault.{AnswerFault}
 use Rattle.query_command.specs.declared.fault.AnswerFault.TheVariants as faults
 use Rattle.query_command.specs.declared.generated_query.Counts.{Counts}
 use Rattle.query_command.specs.Answers.{IsWanting}
-use Rattle.query_command.specs.Generated.{LoopsGenerated, usual_options}
+use Rattle.query_command.specs.Generated.{LoopsGenerated, usual_options, usual_config}
 use Rattle.query_command.specs.Loops.{LocalView, LoopsFile, LeavesHonest, local_base, local_config, wire_of}
 
 -- the addresses that a query asks the server of these data for: the base, and the plan of its join (Verborgh et al.)
@@ -75,7 +75,7 @@ RepliesRows triples config q rows old new = (report : Report) × (report.rows �
 
 -- on the wire that was made for the generated data
 abbrev pub RepliedGenerated : ℕ → Option (Looped FragmentServer) → Counts → List Triple → QueryData → Type 0
-RepliedGenerated persons inside counts triples q = LoopsGenerated persons inside (RepliesRows triples (local_config usual_options 100) q counts.rows)
+RepliedGenerated persons inside counts triples q = LoopsGenerated persons inside (RepliesRows triples usual_config q counts.rows)
 
 -- ---- how many requests there are, where each n-th dial fails, and none for 0
 

@@ -1,14 +1,15 @@
 // The query of generated data through a server in the same process.
 ghost use Rattle.std.specs.Prelude.{◌≡◌, ◌≤◌, None, IfOk, IfErr};
 ghost use Rattle.std.specs.List.{AllByRecursion};
+ghost use Rattle.generated_data.specs.declared.limits.TheConstants.{MOST_PERSONS};
 ghost use Rattle.file_server.specs.Servers.{serving};
 ghost use Rattle.generated_server.specs.Starts.{StartsGenerated};
 ghost use Rattle.plan_laws.specs.Fitting.{AreServable, IsAskable};
-ghost use Rattle.query_command.specs.Generated.{usual_options, CountsQuery, LoopsGenerated, AsksOver, FailsOn};
-ghost use Rattle.query_command.specs.Loops.{LoopsServer, LeavesHonest, local_base, local_config, wire_of};
+ghost use Rattle.query_command.specs.Generated.{usual_options, usual_config, CountsQuery, LoopsGenerated, AsksOver, FailsOn};
+ghost use Rattle.query_command.specs.Loops.{LoopsServer, LeavesHonest, local_base, wire_of};
 ghost use Rattle.query_command.specs.Plans.{SendsPlan, BoundsRequests, RepliesRows, MayEnd};
 ghost use Rattle.query_command.specs.Groups.{GeneratedAsked};
-ghost use Rattle.query_command.specs.Over.{AsksGeneratedOver};
+ghost use Rattle.query_command.specs.Over.{IsUsual, AsksGeneratedOver};
 
 use crate::group_wire::ask_groups;
 use crate::local_query::{OverWire, ask_server};
@@ -24,11 +25,11 @@ use loop_wire::LoopWire;
 use std::alloc::Global;
 use std::sync::Wait;
 use template_fill::WebAddress;
-use tpf_base::{Drain, OutOfMemory, Shelf};
+use tpf_base::{
+    Drain, OutOfMemory, Shelf, USUAL_BODY, USUAL_BUDGET, USUAL_LINKS, USUAL_PAGE, USUAL_RETRIES,
+    USUAL_WINDOW,
+};
 use tpf_client::{BlockSize, ClientFault, Options};
-
-/// The most triples of a page.
-const PAGE: u64 = 100;
 
 /// What a query of generated data came to.
 #[derive(Clone, Copy, Debug, PartialEq, Eq)]
@@ -44,21 +45,34 @@ fn usual_options() -> Options
     ensures { result ≡ usual_options }
 {
     Options {
-        window: 16,
+        window: USUAL_WINDOW,
         block: BlockSize::one(),
-        links: 8,
-        retries: 2,
-        budget: 1000000,
-        max_body: 16777216,
+        links: USUAL_LINKS,
+        retries: USUAL_RETRIES,
+        budget: USUAL_BUDGET,
+        max_body: USUAL_BODY,
+    }
+}
+
+/// What is asked over a wire where no option is given.
+fn usual_over(start: &WebAddress) -> OverWire<'_>
+    ensures start { result.start.now ≡ start.now }
+    ensures usual { IsUsual result }
+{
+    OverWire {
+        start,
+        options: usual_options(),
+        seed: 0,
+        fail_every: 0,
     }
 }
 
 /// The server of the generated data in the same process.
 fn generated_server(alloc: Global, persons: u32) -> Result<FragmentServer, OutOfMemory>
-    requires { persons ≤ 1000000 }
-    ensures { IfOk result (λ server. StartsGenerated persons (local_config usual_options 100) (serving server)) }
+    requires { persons ≤ MOST_PERSONS }
+    ensures { IfOk result (λ server. StartsGenerated persons usual_config (serving server)) }
 {
-    let config = config_of(alloc, PAGE, false)?;
+    let config = config_of(alloc, USUAL_PAGE, false)?;
     server_of_generated(alloc, persons, config)
 }
 
@@ -73,7 +87,7 @@ fn ask_generated<R: Wait>(
     inside: &mut Option<LoopWire<FragmentConnection>>,
 ) -> Result<Counts, ClientFault>
     requires start { start.now ≡ local_base }
-    requires starts { StartsGenerated persons (local_config usual_options 100) (serving server) }
+    requires starts { StartsGenerated persons usual_config (serving server) }
     ensures counts { IfOk result (CountsQuery persons query.now) }
     ensures answers { IfOk result (λ counts. LoopsGenerated persons inside.new (AsksOver query.now counts.rows)) }
     ensures cause { IfErr result (λ fault. LoopsGenerated persons inside.new (FailsOn query.now fault)) }
@@ -88,12 +102,7 @@ fn ask_generated<R: Wait>(
     ensures honest { LoopsServer server 0 0 inside.new LeavesHonest }
 {
     let triples = server.server().table().len() as u64;
-    let asked = OverWire {
-        start,
-        options: usual_options(),
-        seed: 0,
-        fail_every: 0,
-    };
+    let asked = usual_over(start);
     let mut drain = Drain::new();
     match ask_server(rt, alloc, &asked, server, query, &mut drain, inside) {
         Ok(report) => Ok(Counts {
@@ -115,16 +124,11 @@ fn count_groups<R: Wait>(
     inside: &mut Option<LoopWire<FragmentConnection>>,
 ) -> Result<Counts, ClientFault>
     requires start { start.now ≡ local_base }
-    requires starts { StartsGenerated persons (local_config usual_options 100) (serving server) }
+    requires starts { StartsGenerated persons usual_config (serving server) }
     ensures { AsksGeneratedOver server persons query.now result inside.new }
 {
     let triples = server.server().table().len() as u64;
-    let asked = OverWire {
-        start,
-        options: usual_options(),
-        seed: 0,
-        fail_every: 0,
-    };
+    let asked = usual_over(start);
     let mut drain = Drain::new();
     match ask_groups(rt, alloc, &asked, server, query, &mut drain, inside) {
         Ok(report) => Ok(Counts {
@@ -135,9 +139,9 @@ fn count_groups<R: Wait>(
     }
 }
 
-/// Serves the generated data of so many persons, at most 1000000, to a client in the same process, as a
-/// file is served where no option is given, and counts the triples, and the rows of the answer to the
-/// query of a file. The answer itself is written nowhere.
+/// Serves the generated data of so many persons, at most `MOST_PERSONS` (1000000), to a client in the same
+/// process, as a file is served where no option is given, and counts the triples, and the rows of the
+/// answer to the query of a file. The answer itself is written nowhere.
 ///
 /// The query is read first. Then the text of the data is made and read, and a wire is made for the
 /// server and left in `inside`; all its connections are closed.
@@ -167,7 +171,7 @@ pub fn query_generated<R: Wait, F: Shelf>(
     inside: &mut Option<LoopWire<FragmentConnection>>,
 ) -> Result<Counts, AnswerFault>
     requires none { inside.old ≡ None }
-    requires most { persons ≤ 1000000 }
+    requires most { persons ≤ MOST_PERSONS }
     ensures { GeneratedAsked (F.state shelf.old) (F.state shelf.new) inside.new persons query.now result }
 {
     laws::commands_keep_limits();

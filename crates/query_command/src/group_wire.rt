@@ -1,8 +1,5 @@
 // A query with groups over a wire that is made for it.
-ghost use Rattle.std.specs.Prelude.{◌≡◌, ◌≤◌};
-ghost use Rattle.file_server.specs.Servers.{serving};
-ghost use Rattle.query_command.specs.Loops.{local_base};
-ghost use Rattle.query_command.specs.Over.{AsksGroups};
+ghost use Rattle.query_command.specs.Over.{AsksGroups, MayAsk};
 
 use crate::laws;
 use crate::local_query::OverWire;
@@ -26,12 +23,7 @@ pub(crate) fn ask_groups<R: Wait, K: Sink>(
     out: &mut K,
     inside: &mut Option<LoopWire<FragmentConnection>>,
 ) -> Result<Report, ClientFault>
-    requires start { asked.now.start.now ≡ local_base }
-    requires first { (serving server).version ≡ 1 }
-    requires base { (serving server).config.base ≡ local_base }
-    requires window { 1 ≤ asked.now.options.window }
-    requires some { 1 ≤ asked.now.options.links }
-    requires few { asked.now.options.links ≤ 256 }
+    requires { MayAsk asked.now server }
     ensures { AsksGroups server asked.now.seed asked.now.fail_every asked.now.options query.now result
         inside.new (K.state out.old) (K.state out.new) }
 {

@@ -1,13 +1,16 @@
 // The query of a file through a server in the same process.
 ghost use Rattle.std.specs.Prelude.{◌≡◌, ◌<◌, ◌≤◌, ◌^◌, true, None, IfOk, IfErr, IsErrOf, OnErr};
 ghost use Rattle.std.specs.List.{AllByRecursion};
+ghost use Rattle.template_fill.specs.declared.limits.TheConstants.{LARGEST_PAGE};
 ghost use Rattle.data_files.specs.Kept.{KeepsSink};
 ghost use Rattle.file_server.specs.Servers.{serving};
 ghost use Rattle.plan_laws.specs.Fitting.{AreServable, IsAskable};
+ghost use Rattle.tpf_client.specs.Bounds.{SuitsCalls};
 ghost use Rattle.tpf_client.specs.Requested.{AnswersPlan};
-ghost use Rattle.query_command.specs.Loops.{LoopsServer, LeavesHonest, WritesLooped, FailsLooped, WritesAnswer, WritesAnswerFront, local_view, local_base, wire_of};
+ghost use Rattle.query_command.specs.Loops.{LoopsServer, LeavesHonest, WritesLooped, FailsLooped, WritesAnswer, WritesAnswerFront, local_view, wire_of};
 ghost use Rattle.query_command.specs.Plans.{SendsPlan, BoundsRequests, EndsAsPlanned, offer_of};
 ghost use Rattle.query_command.specs.Groups.{FileAsked};
+ghost use Rattle.query_command.specs.Over.{MayAsk};
 
 use crate::blocks::{grammar_of, in_blocks};
 use crate::group_wire::ask_groups;
@@ -35,7 +38,7 @@ pub struct LocalQuery<'a> {
     pub query: &'a str,
     /// Which graphs of the data are served.
     pub choice: &'a Choice,
-    /// The most triples of a page: 1 to 1000.
+    /// The most triples of a page: 1 to `LARGEST_PAGE` (1000).
     pub page_size: u64,
     /// What bounds the call over the wire.
     pub options: Options,
@@ -70,12 +73,7 @@ pub(crate) fn ask_server<R: Wait, K: Sink>(
     out: &mut K,
     inside: &mut Option<LoopWire<FragmentConnection>>,
 ) -> Result<Report, ClientFault>
-    requires start { asked.now.start.now ≡ local_base }
-    requires first { (serving server).version ≡ 1 }
-    requires base { (serving server).config.base ≡ local_base }
-    requires window { 1 ≤ asked.now.options.window }
-    requires some { 1 ≤ asked.now.options.links }
-    requires few { asked.now.options.links ≤ 256 }
+    requires { MayAsk asked.now server }
     ensures answers { IfOk result (λ report. LoopsServer server asked.now.seed asked.now.fail_every inside.new
         (WritesLooped query.now asked.now.options report (K.state out.old) (K.state out.new))) }
     ensures cause { IfErr result (λ fault. LoopsServer server asked.now.seed asked.now.fail_every inside.new
@@ -155,10 +153,8 @@ pub fn local<R: Wait, F: Shelf, K: Sink>(
 ) -> Result<Report, AnswerFault>
     requires none { inside.old ≡ None }
     requires low { 1 ≤ asked.now.page_size }
-    requires high { asked.now.page_size ≤ 1000 }
-    requires window { 1 ≤ asked.now.options.window }
-    requires some { 1 ≤ asked.now.options.links }
-    requires few { asked.now.options.links ≤ 256 }
+    requires high { asked.now.page_size ≤ LARGEST_PAGE }
+    requires bounds { SuitsCalls asked.now.options }
     ensures { FileAsked (F.state shelf.old) (F.state shelf.new) (K.state out.old) (K.state out.new)
         inside.new (local_view asked.now) result }
 {

@@ -1,6 +1,6 @@
 // The query of a file over a wire.
-ghost use Rattle.std.specs.Prelude.{◌≤◌};
 ghost use Rattle.tpf_base.specs.Links.{SameAllowed};
+ghost use Rattle.tpf_client.specs.Bounds.{SuitsCalls};
 ghost use Rattle.query_command.specs.Groups.{ServerAsked};
 
 use crate::blocks::grammar_of;
@@ -46,9 +46,7 @@ pub fn query<R: Wait, F: Shelf, W: Dial, K: Sink>(
     wire: &mut W,
     out: &mut K,
 ) -> Result<Report, AnswerFault>
-    requires window { 1 ≤ options.now.window }
-    requires some { 1 ≤ options.now.links }
-    requires few { options.now.links ≤ 256 }
+    requires bounds { SuitsCalls options.now }
     ensures asks { ServerAsked (F.state shelf.old) (F.state shelf.new)
         (W.allows wire.old) (W.state wire.old) (W.state wire.new) (K.state out.old) (K.state out.new)
         name.now start.now options.now result }

@@ -1,5 +1,6 @@
 // The start of a server in the same process.
 ghost use Rattle.std.specs.Prelude.{◌≡◌, ◌≤◌, IfOk};
+ghost use Rattle.template_fill.specs.declared.limits.TheConstants.{LARGEST_PAGE};
 ghost use Rattle.query_command.specs.Loops.{local_base, config_of};
 
 use hydra_controls::Config;
@@ -25,7 +26,7 @@ pub(crate) fn local_start(alloc: Global) -> Result<WebAddress, OutOfMemory>
 /// The configuration of a server in the same process, which reads the rows of requests or passes them over.
 pub(crate) fn config_of(alloc: Global, page_size: u64, rows: bool) -> Result<Config, OutOfMemory>
     requires low { 1 ≤ page_size }
-    requires high { page_size ≤ 1000 }
+    requires high { page_size ≤ LARGEST_PAGE }
     ensures { IfOk result (λ config. config ≡ config_of page_size rows) }
 {
     let base = local_start(alloc)?;

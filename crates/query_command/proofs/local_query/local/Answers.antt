@@ -1,5 +1,5 @@
 -- What is said of the server is said of the file that it serves.
-use Rattle.std.proofs.Common.{Ok, Err, refl, ap, subst}
+use Rattle.std.proofs.Common.{Ok, Err, refl, subst}
 use Rattle.template_fill.specs.Metadata.{Config}
 use Rattle.tpf_base.specs.Addresses.{authority_of}
 use Rattle.data_files.specs.declared.fault.DataFault.TheVariants as data_faults
@@ -13,7 +13,7 @@ use Rattle.query_command.specs.Blocks.{grammar_of}
 use Rattle.query_command.specs.Loops.{local_view}
 use Rattle.query_command.specs.Groups as sums
 use Rattle.query_command.proofs.Complete.{asks_file, asks_none}
-use Rattle.query_command.proofs.Locals.{local_answers, local_fault, local_honest, local_planned, local_ends, local_sent, local_requested, local_replied, valid_read, is_config, query_from}
+use Rattle.query_command.proofs.Locals.{local_answers, local_fault, local_honest, local_planned, local_ends, local_sent, local_requested, local_replied, valid_read, is_config, may_ask, query_from}
 use Rattle.query_command.proofs.GroupFiles.{plain_file, group_file, file_ok, file_err}
 use Rattle.query_command.proofs.Opening.{opens_two, asked_two, reads_none, reads_one, reads_both, reads_refused}
 use Rattle.query_command.proofs.local_query.local.Goals as goal
@@ -128,8 +128,8 @@ returns g c =
     sums.Groups q (file_err _ _ view server starts _ _ _ q read c.commands_keep_limits.ensures.files c.commands_keep_limits.ensures.groups fault c.in-Err-ask_groups.ensures
     (reads_both _ _ _ _ _ _ first (λ e. cc) (Err (faults.Client fault)) (asked_two _ _ _ _ _ _ first (λ e. cc) second.asks) (opens_two _ _ _ first.asks.opened second.asks.opened) (λ e. absurd e) _ (λ e. cc) second))
 
-pub ask_server-requires-clause-base : goal.ask_server-requires-clause-base
-ask_server-requires-clause-base g c = ap (λ (s : Config). s.base) (subst (λ (config : Config). Starts (g.F.Shelf.state c.args.shelf.now).told c.args.asked.now.name.now c.args.asked.now.choice.now config (serving c.in-Ok-server_of_file.server)) (is_config _ _ c.args.asked.now.options _ c.in-Ok-config_of.ensures c.in_blocks.ensures) c.in-Ok-server_of_file.ensures.starts).config_is
+pub ask_server-requires : goal.ask_server-requires
+ask_server-requires g c = may_ask _ _ _ _ _ _ _ c.in-Ok.ensures c.requires.bounds c.in-Ok-server_of_file.ensures.starts (is_config _ _ c.args.asked.now.options _ c.in-Ok-config_of.ensures c.in_blocks.ensures)
 
-pub ask_groups-requires-clause-base : goal.ask_groups-requires-clause-base
-ask_groups-requires-clause-base g c = ap (λ (s : Config). s.base) (subst (λ (config : Config). Starts (g.F.Shelf.state c.args.shelf.now).told c.args.asked.now.name.now c.args.asked.now.choice.now config (serving c.in-Ok-server_of_file.server)) (is_config _ _ c.args.asked.now.options _ c.in-Ok-config_of.ensures c.in_blocks.ensures) c.in-Ok-server_of_file.ensures.starts).config_is
+pub ask_groups-requires : goal.ask_groups-requires
+ask_groups-requires g c = may_ask _ _ _ _ _ _ _ c.in-Ok.ensures c.requires.bounds c.in-Ok-server_of_file.ensures.starts (is_config _ _ c.args.asked.now.options _ c.in-Ok-config_of.ensures c.in_blocks.ensures)
