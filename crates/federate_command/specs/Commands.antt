@@ -81,7 +81,7 @@ pub record DecidesPatterns (shelf shelf' : ShelfState) (name : List ℕ) (result
 
 -- ---- completeness
 
--- Nothing stands in the way of a query over several servers: the other ends answer, at each start, as a server of these data does, over one version of its own, which is within the limits of what is served and serves its start; never 1000 waits follow one another; the faults rise at most as often as a request may be asked again; each body of the plan over these versions is within the limit; and the addresses and the rise are within the budget.
+-- Nothing stands in the way of a query over several servers: the other ends answer, at each start, as a server of these data does, over one version of its own, which is within the limits of what is served and serves its start; fewer than MOST_IDLE (1000) waits follow one another; the faults rise at most as often as a request may be asked again; each body of the plan over these versions is within the limit; and the addresses and the rise are within the budget.
 pub record FitsServers (allows : List ℕ → ℕ → List ℕ → List ℕ → Type 0) (q : QueryData) (starts : List Address) (options : Options) (publishers : List Publisher) (versions : List ℕ) (old new : WireState) : Type 0 where
   pub honest : AreHonestServers allows starts publishers old
   pub answers : AnswerStill allows starts publishers versions

@@ -1,6 +1,7 @@
 // The query of a file over a wire to several servers.
-ghost use Rattle.std.specs.Prelude.{◌≤◌, ◌<◌, length};
+ghost use Rattle.std.specs.Prelude.{◌<◌, length};
 ghost use Rattle.tpf_base.specs.Links.{SameAllowed};
+ghost use Rattle.tpf_client.specs.Bounds.{SuitsCalls};
 ghost use Rattle.federated_query.specs.Servers.{AreApart};
 ghost use Rattle.federate_command.specs.Commands.{ServersAsked};
 
@@ -40,9 +41,7 @@ pub fn query_servers<R: Wait, F: Shelf, W: Dial, K: Sink>(
 ) -> Result<Report, AnswerFault>
     requires starts { 0 < length starts.now }
     requires apart { AreApart starts.now }
-    requires window { 1 ≤ options.now.window }
-    requires some { 1 ≤ options.now.links }
-    requires few { options.now.links ≤ 256 }
+    requires bounds { SuitsCalls options.now }
     ensures asks { ServersAsked (F.state shelf.old) (F.state shelf.new)
         (W.allows wire.old) (W.state wire.old) (W.state wire.new) (K.state out.old) (K.state out.new)
         name.now starts.now options.now result }

@@ -94,7 +94,7 @@ LinksCause old new faults.Wire = RoseAtDoor old new
 LinksCause old new faults.Sink = ⊥
 LinksCause old new faults.OutOfMemory = Unit {0}
 
--- How a service of links ended: each link that was given in it is closed, and those from before are as they were; and a number of connections is answered only where the door did not fail, and it ends after so many, which are not more than were given, and at most 255 more than are enough.
+-- How a service of links ended: each link that was given in it is closed, and those from before are as they were; and a number of connections is answered only where the door did not fail, and it ends after so many, which are not more than were given, and fewer than MOST_LIVE (256) more than are enough.
 pub record EndsService (stop_after : Option ℕ) (old new : WireState) (result : Result ℕ ServiceFault) : Type 0 where
   pub closed : AllClosed old new
   pub older : LeavesOlder old new

@@ -32,7 +32,7 @@ pub struct Service<'a> {
     pub choice: &'a Choice,
     /// Where the fragments stand: an address without a query part.
     pub base: WebAddress,
-    /// The most triples of a page: 1 to 1000.
+    /// The most triples of a page: 1 to `LARGEST_PAGE` (1000).
     pub page_size: u64,
     /// The path on which a request has the file read again, if there is one: a written path that is not
     /// the base's.
@@ -196,8 +196,8 @@ fn serve_server<R: Wait, F: Shelf, W: Accept, K: Sink>(
 
 /// Serves the data of a file at the host and the port of a base: reads the file, opens the door (the
 /// listener), writes `ready` and LF, and serves the links (the connections) that come to it until so
-/// many have ended. Gives their number, at most 255 more than `stop_after` says, or 256 where that is
-/// 0; the count stands still at its last value.
+/// many have ended. Gives their number, fewer than `MOST_LIVE` (256) more than `stop_after` says, or at most
+/// so many where that is 0; the count stands still at its last value.
 ///
 /// Where rows are read, each request that names some is answered by the fragment that they restrict, and else
 /// they are passed over.

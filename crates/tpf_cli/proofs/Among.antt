@@ -1,5 +1,5 @@
 -- The statuses with which a command may end.
-use Rattle.std.proofs.Common.{ℕ, ◌≡◌, ◌==◌, ◌<◌, ◌^◌, ◌⊎◌, Bool, true, false, List, [], ◌∷◌, Option, Some, None, Result, Ok, Err, refl, sym, subst, inl, inr, arith}
+use Rattle.std.proofs.Common.{ℕ, ◌≡◌, ◌==◌, ◌<◌, ◌^◌, Bool, true, false, List, [], ◌∷◌, Option, Some, None, Result, Ok, Err, refl, sym, subst, arith}
 use Rattle.std.proofs.lemmas.Bool.Decides.{nat_tests}
 use Rattle.rdf_terms.specs.declared.term.Triple.{Triple}
 use Rattle.template_fill.specs.Metadata.{Config}
@@ -32,10 +32,11 @@ use Rattle.serve_command.specs.declared.fault.ServiceFault.TheVariants as servic
 use Rattle.federate_command.specs.Commands.{ServersAsked}
 use Rattle.command_words.specs.Commands.{Command, Federated, local, query, federate, serve, make}
 use Rattle.tpf_cli.specs.Endings as ends
-use Rattle.tpf_cli.specs.Endings.{EndOfRun, usage, no_words, answered, made, counted, data_status, query_status, client_status, fault_status, answer_status, service_status, made_status, counted_status, status_of, Says}
+use Rattle.tpf_cli.specs.Endings.{EndOfRun, data_status, query_status, client_status, fault_status, answer_status, service_status, made_status, counted_status, Says}
 use Rattle.tpf_cli.specs.Ranges.{IsInRange}
-use Rattle.tpf_cli.specs.Runs.{Around, WritesNumbers, CountsFile, Does, DoesOf, unwritten, wire_inside, options_of, view_of}
+use Rattle.tpf_cli.specs.Runs.{Around, WritesNumbers, CountsFile, DoesOf, unwritten, wire_inside, options_of, view_of}
 use Rattle.tpf_cli.specs.Promises.{IsAmong, local_statuses, server_statuses, statuses_of}
+use Rattle.tpf_cli.proofs.Ended.{budget_small, of_run}
 
 -- ---- faults, by the statuses that they have
 
@@ -209,47 +210,6 @@ module _ (a : Around) where
     among_counted : (result : Result (Unit {0}) AnswerFault) → CountsFile a.shelf a.shelf' a.out a.out' inside persons name result → IsAmong counted_statuses (counted_status result)
     among_counted result h = among_numbers h.came result h.line h.asks
 
-  -- ---- commands
-
-  among_command : (command : Command) → IsInRange command → (end : EndOfRun) → Does a command end → IsAmong (statuses_of (Some command)) (status_of end)
-  among_command (local name query_name choice page client seed fail_every) r (answered data_name asked answer) h =
-      let few = r.2.budget in among_file (view_of name query_name choice page client seed fail_every) answer (omega (arith, few)) h.3
-  among_command (local name query_name choice page client seed fail_every) r usage h = absurd h
-  among_command (local name query_name choice page client seed fail_every) r no_words h = absurd h
-  among_command (local name query_name choice page client seed fail_every) r (ends.served file service) h = absurd h
-  among_command (local name query_name choice page client seed fail_every) r (made written) h = absurd h
-  among_command (local name query_name choice page client seed fail_every) r (counted asked result) h = absurd h
-  among_command (query url query_name client) r (answered data_name asked answer) h = among_server query_name url (options_of client) answer h.2
-  among_command (query url query_name client) r usage h = absurd h
-  among_command (query url query_name client) r no_words h = absurd h
-  among_command (query url query_name client) r (ends.served file service) h = absurd h
-  among_command (query url query_name client) r (made written) h = absurd h
-  among_command (query url query_name client) r (counted asked result) h = absurd h
-  among_command (federate several) r (answered data_name asked answer) h = among_servers several answer h.2
-  among_command (federate several) r usage h = absurd h
-  among_command (federate several) r no_words h = absurd h
-  among_command (federate several) r (ends.served file service) h = absurd h
-  among_command (federate several) r (made written) h = absurd h
-  among_command (federate several) r (counted asked result) h = absurd h
-  among_command (serve name base choice page stop_after reload rows) r (ends.served file service) h = among_service service
-  among_command (serve name base choice page stop_after reload rows) r usage h = absurd h
-  among_command (serve name base choice page stop_after reload rows) r no_words h = absurd h
-  among_command (serve name base choice page stop_after reload rows) r (answered data_name asked answer) h = absurd h
-  among_command (serve name base choice page stop_after reload rows) r (made written) h = absurd h
-  among_command (serve name base choice page stop_after reload rows) r (counted asked result) h = absurd h
-  among_command (make count None) r (made written) h = among_made written
-  among_command (make count None) r usage h = absurd h.1
-  among_command (make count None) r no_words h = absurd h.1
-  among_command (make count None) r (answered data_name asked answer) h = absurd h.1
-  among_command (make count None) r (ends.served file service) h = absurd h.1
-  among_command (make count None) r (counted asked result) h = absurd h.1
-  among_command (make count (Some name)) r (counted asked result) h = among_counted count name result h.1.1
-  among_command (make count (Some name)) r usage h = absurd h.1
-  among_command (make count (Some name)) r no_words h = absurd h.1
-  among_command (make count (Some name)) r (answered data_name asked answer) h = absurd h.1
-  among_command (make count (Some name)) r (ends.served file service) h = absurd h.1
-  among_command (make count (Some name)) r (made written) h = absurd h.1
-
   -- ---- runs
 
   among_memory : (command : Option Command) → IsAmong (statuses_of command) 8
@@ -261,16 +221,12 @@ module _ (a : Around) where
   among_memory (Some (make count None)) = refl
   among_memory (Some (make count (Some name))) = refl
 
-  among_none : (end : EndOfRun) → (end ≡ usage) ⊎ (end ≡ no_words) → IsAmong (2 ∷ 8 ∷ []) (status_of end)
-  among_none end (inl is) = subst (λ (e : EndOfRun). IsAmong (2 ∷ 8 ∷ []) (status_of e)) (sym is) refl
-  among_none end (inr is) = subst (λ (e : EndOfRun). IsAmong (2 ∷ 8 ∷ []) (status_of e)) (sym is) refl
-
-  among_of : (command : Option Command) → ((c : Command) → command ≡ Some c → IsInRange c) → (end : EndOfRun) → DoesOf a command end → IsAmong (statuses_of command) (status_of end)
-  among_of None ranged end h = among_none end h.0
-  among_of (Some command) ranged end (inl h) = among_command command (ranged command refl) end h
-  among_of (Some command) ranged end (inr h) = subst (λ (e : EndOfRun). IsAmong (statuses_of (Some command)) (status_of e)) (sym h.0) (among_memory (Some command))
-
-  -- the status is that of the ending, or 8
   pub run_among : (command : Option Command) → ((c : Command) → command ≡ Some c → IsInRange c) → (end : EndOfRun) (result : ℕ) (err err' : SinkState) → DoesOf a command end → Says result end err err' → IsAmong (statuses_of command) result
-  run_among command ranged end result err err' h (inl s) = subst (IsAmong (statuses_of command)) (sym s.0) (among_of command ranged end h)
-  run_among command ranged end result err err' h (inr s) = subst (IsAmong (statuses_of command)) (sym s.0) (among_memory command)
+  run_among = of_run a (λ command status. IsAmong (statuses_of command) status) refl among_memory (record {
+    of_local = λ name query_name choice page client seed fail_every data_name asked answer h r. among_file (view_of name query_name choice page client seed fail_every) answer (budget_small client.budget r.2.budget) h;
+    of_query = λ url query_name client data_name asked answer h r. among_server query_name url (options_of client) answer h;
+    of_federate = λ several data_name asked answer h r. among_servers several answer h;
+    of_serve = λ name base choice page stop_after reload rows file service h r. among_service service;
+    of_made = λ count written h r. among_made written;
+    of_counted = λ count name asked result h r. among_counted count name result h;
+  })

@@ -1,34 +1,29 @@
 -- What is said of the query of a file that ended with status 0 is said of what the words command.
-use Rattle.std.proofs.Common.{ℕ, ◌≡◌, ◌<◌, ◌≤◌, ◌^◌, inl, inr, List, Option, Some, None, Result, refl, subst, arith}
+use Rattle.std.proofs.Common.{ℕ, ◌≡◌, ◌<◌, ◌^◌, inl, inr, List, Option, Some, None, Result, refl, subst, arith}
 use Rattle.tpf_base.specs.Wrote.{SinkState}
 use Rattle.tpf_client.specs.declared.options.Report.{Report}
 use Rattle.query_command.specs.declared.fault.AnswerFault.{AnswerFault}
 use Rattle.query_command.specs.Groups.{FileAsked}
 use Rattle.query_command.specs.Loops.{LocalView}
 use Rattle.command_words.specs.Commands.{Command, local, query, federate, serve, make}
-use Rattle.tpf_cli.specs.Endings as ends
-use Rattle.tpf_cli.specs.Endings.{EndOfRun, usage, no_words, answered, made, counted, Says}
+use Rattle.tpf_cli.specs.Endings.{EndOfRun, no_words, answered, Says}
 use Rattle.tpf_cli.specs.Ranges.{IsInRange}
-use Rattle.tpf_cli.specs.Runs.{Around, Does, DoesOf, wire_inside, view_of}
+use Rattle.tpf_cli.specs.Runs.{Around, DoesOf, wire_inside, view_of}
 use Rattle.tpf_cli.specs.Promises.{OfAnswered}
-
-pub budget_small : (n : ℕ) → n ≤ 1000000000000 → n < 2 ^ 63
-budget_small n h = omega (arith, h)
+use Rattle.tpf_cli.proofs.Ended.{budget_small, OfEach, each_ending}
 
 module _ (a : Around) (holds : LocalView → SinkState → SinkState → Type 0)
     (told : (view : LocalView) (answer : Result Report AnswerFault) → view.options.budget < 2 ^ 63 → FileAsked a.shelf a.shelf' a.out a.out' (wire_inside a.inside') view answer → (data_name asked : List ℕ) (result : ℕ) (err err' : SinkState)
     → Says result (answered data_name asked answer) err err' → result ≡ 0 → holds view err err') where
-  requests_command : (command : Command) → IsInRange command → (end : EndOfRun) (result : ℕ) (err err' : SinkState) → Does a command end → Says result end err err' → OfAnswered (Some command) result (λ view. holds view err err')
-  requests_command (local name query_name choice page client seed fail_every) r (answered data_name asked answer) result err err' h s = told (view_of name query_name choice page client seed fail_every) answer (budget_small client.budget r.2.budget) h.3 data_name asked result err err' s
-  requests_command (local name query_name choice page client seed fail_every) r usage result err err' h s = absurd h
-  requests_command (local name query_name choice page client seed fail_every) r no_words result err err' h s = absurd h
-  requests_command (local name query_name choice page client seed fail_every) r (ends.served file service) result err err' h s = absurd h
-  requests_command (local name query_name choice page client seed fail_every) r (made written) result err err' h s = absurd h
-  requests_command (local name query_name choice page client seed fail_every) r (counted asked given) result err err' h s = absurd h
-  requests_command (query url query_name client) r end result err err' h s = tt
-  requests_command (federate several) r end result err err' h s = tt
-  requests_command (serve name base choice page stop_after reload rows) r end result err err' h s = tt
-  requests_command (make count asked) r end result err err' h s = tt
+  requests_each : OfEach a (λ command end. IsInRange command → (result : ℕ) (err err' : SinkState) → Says result end err err' → OfAnswered (Some command) result (λ view. holds view err err'))
+  requests_each = record {
+    of_local = λ name query_name choice page client seed fail_every data_name asked answer h r result err err' s. told (view_of name query_name choice page client seed fail_every) answer (budget_small client.budget r.2.budget) h data_name asked result err err' s;
+    of_query = λ url query_name client data_name asked answer h r result err err' s. tt;
+    of_federate = λ several data_name asked answer h r result err err' s. tt;
+    of_serve = λ name base choice page stop_after reload rows file service h r result err err' s. tt;
+    of_made = λ count written h r result err err' s. tt;
+    of_counted = λ count name asked numbers h r result err err' s. tt;
+  }
 
   -- memory ran out over the words
   no_requests : (command : Command) (end : EndOfRun) (result : ℕ) (err err' : SinkState) → end ≡ no_words → Says result end err err' → OfAnswered (Some command) result (λ view. holds view err err')
@@ -44,5 +39,6 @@ module _ (a : Around) (holds : LocalView → SinkState → SinkState → Type 0)
 
   pub answered_requests : (command : Option Command) → ((c : Command) → command ≡ Some c → IsInRange c) → (end : EndOfRun) (result : ℕ) (err err' : SinkState) → DoesOf a command end → Says result end err err' → OfAnswered command result (λ view. holds view err err')
   answered_requests None ranged end result err err' h s = tt
-  answered_requests (Some command) ranged end result err err' (inl h) s = requests_command command (ranged command refl) end result err err' h s
+  answered_requests (Some command) ranged end result err err' (inl h) s =
+      each_ending a (λ c e. IsInRange c → (status : ℕ) (error error' : SinkState) → Says status e error error' → OfAnswered (Some c) status (λ view. holds view error error')) requests_each command end h (ranged command refl) result err err' s
   answered_requests (Some command) ranged end result err err' (inr h) s = no_requests command end result err err' h.0 s

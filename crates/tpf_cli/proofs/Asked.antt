@@ -1,5 +1,5 @@
 -- What a query of generated data came to is what its command did.
-use Rattle.std.proofs.Common.{ℕ, ◌≡◌, ◌≤◌, List, Option, None, Result, Ok, Err, OnOk, OnErr, IsErrOf, refl, sym, subst}
+use Rattle.std.proofs.Common.{ℕ, ◌≡◌, List, Option, None, Result, Ok, Err, OnOk, OnErr, IsErrOf, refl, sym, subst}
 use Rattle.std.specs.Io.KnownBytes.{Appends}
 use Rattle.std.specs.Option.{option_map}
 use Rattle.rdf_terms.specs.Canon.{canon}
@@ -12,6 +12,7 @@ use Rattle.tpf_base.specs.declared.fault.Fault.TheVariants as sinks
 use Rattle.loop_wire.specs.Looped.{Looped}
 use Rattle.fragment_server.specs.declared.server.FragmentServer.{FragmentServer}
 use Rattle.tpf_client.specs.declared.options.Options.{Options}
+use Rattle.tpf_client.specs.Bounds.{SuitsCalls}
 use Rattle.data_files.specs.declared.query.Grammar.TheVariants as grammars
 use Rattle.data_files.specs.Causes.{QueryDecides}
 use Rattle.data_files.specs.Kept.{KeepsSink}
@@ -27,8 +28,8 @@ use Rattle.tpf_cli.proofs.Grouped.{generated_gives}
 use Rattle.tpf_cli.specs.Runs.{Makes, Writes, WritesNumbers, CountsFile, IsRead, GivesEnd, options_of, unwritten}
 
 -- the bounds of a client are those of its words
-pub options_in : (client : ClientWords) (options : Options) → options ≡ options_of client → IsClient client → (1 ≤ options.window) × (1 ≤ options.links) × (options.links ≤ 256)
-options_in client options is h = subst (λ (o : Options). (1 ≤ o.window) × (1 ≤ o.links) × (o.links ≤ 256)) (sym is) (h.window, h.some, h.few)
+pub options_in : (client : ClientWords) (options : Options) → options ≡ options_of client → IsClient client → SuitsCalls options
+options_in client options is h = subst SuitsCalls (sym is) (h.window, h.some, h.few)
 
 -- a line that was not written is no fault of the query
 module _ (shelf shelf' : ShelfState) (name : List ℕ) where
@@ -61,9 +62,6 @@ module _ (shelf shelf' : ShelfState) (name : List ℕ) where
 -- the numbers of a query that failed are not written
 pub no_numbers : (out : SinkState) (came : Result Counts AnswerFault) (fault : AnswerFault) → came ≡ Err fault → WritesNumbers out out came (Err fault)
 no_numbers out came fault is = subst (λ (r : Result Counts AnswerFault). WritesNumbers out out r (Err fault)) (sym is) (refl, refl)
-
-pub all_numbers : (out out' : SinkState) (came : Result Counts AnswerFault) (counts : Counts) (result : Result (Unit {0}) AnswerFault) → came ≡ Ok counts → WritesNumbers out out' (Ok counts) result → WritesNumbers out out' came result
-all_numbers out out' came counts result is h = subst (λ (r : Result Counts AnswerFault). WritesNumbers out out' r result) (sym is) h
 
 -- the data of so many persons were written, or a front of them
 pub writes_data : (out out' : SinkState) (count : ℕ) (result : Result (Unit {0}) Fault) → OnOk result (Appends out.taken out'.taken (canon (generated count))) → OnErr result (AppendsPrefix out.taken out'.taken (canon (generated count)))

@@ -1,5 +1,5 @@
 -- When a run over a query with groups succeeds.
-use Rattle.std.proofs.Common.{ℕ, ◌≡◌, ◌<◌, ◌≤◌, ◌^◌, inl, inr, List, Option, Some, None, Result, Ok, Err, IfErr, codes, refl, sym, subst, arith}
+use Rattle.std.proofs.Common.{ℕ, ◌≡◌, ◌<◌, ◌^◌, inl, inr, List, Option, Some, None, Result, Ok, Err, IfErr, codes, refl, sym, subst}
 use Rattle.rdf_terms.specs.declared.term.Triple.{Triple}
 use Rattle.tpf_base.specs.Addresses.{Address}
 use Rattle.tpf_base.specs.Causes.{Rose}
@@ -30,21 +30,21 @@ use Rattle.query_command.specs.declared.fault.AnswerFault.{AnswerFault}
 use Rattle.query_command.specs.declared.fault.AnswerFault.TheVariants as answers
 use Rattle.query_command.specs.declared.generated_query.Counts.{Counts}
 use Rattle.query_command.specs.Answers.{IsWanting}
-use Rattle.query_command.specs.Generated.{usual_options}
+use Rattle.query_command.specs.Generated.{usual_options, usual_config}
 use Rattle.query_command.specs.Loops.{LocalView, local_config}
 use Rattle.query_command.specs.Groups.{FileAsked, ServerAsked, GeneratedAsked, Plain, Groups, GroupIsWithin, FitsGroupOver}
 use Rattle.query_command.proofs.Complete.{data_memory}
 use Rattle.command_words.specs.declared.command.ClientWords.{ClientWords}
 use Rattle.command_words.specs.Commands.{Command, local, query, federate, serve, make}
-use Rattle.tpf_cli.specs.Endings as ends
-use Rattle.tpf_cli.specs.Endings.{EndOfRun, usage, no_words, answered, made, counted, data_status, query_status, client_status, fault_status, answer_status, counted_status, status_of, Says}
+use Rattle.tpf_cli.specs.Endings.{EndOfRun, data_status, query_status, client_status, fault_status, answer_status, counted_status, Says}
 use Rattle.tpf_cli.specs.Lines.{sizes_text}
 use Rattle.tpf_cli.specs.Ranges.{IsInRange, IsTyped}
-use Rattle.tpf_cli.specs.Runs.{Around, WritesNumbers, CutsLine, CountsFile, Does, DoesOf, unwritten, wire_inside, options_of, view_of}
+use Rattle.tpf_cli.specs.Runs.{Around, WritesNumbers, CutsLine, CountsFile, DoesOf, unwritten, wire_inside, options_of, view_of}
 use Rattle.tpf_cli.specs.Promises.{OfGroupFiles, OfGroupGenerated, OfGroupQuery, IsDone, SucceedsGroupsOf}
 use Rattle.tpf_cli.proofs.Grouped.{no_groups}
 use Rattle.query_command.proofs.Locals.{same_data}
 use Rattle.tpf_cli.proofs.Refused.{carried, same_group}
+use Rattle.tpf_cli.proofs.Ended.{budget_small, of_run}
 
 -- ---- want of memory
 
@@ -112,7 +112,7 @@ module _ (a : Around) where
 
   module _ (persons : ℕ) (name : List ℕ) where
     came_done : (came : Result Counts AnswerFault) → GeneratedAsked a.shelf a.shelf' (wire_inside a.inside') persons name came → ¬ (Rose a.shelf.faults a.shelf'.faults)
-        → OfGroupGenerated a.shelf.told persons name (λ triples g. GroupIsWithin 0 usual_options triples (local_config usual_options 100) g → IfErr came IsWanting)
+        → OfGroupGenerated a.shelf.told persons name (λ triples g. GroupIsWithin 0 usual_options triples usual_config g → IfErr came IsWanting)
     came_done (Ok counts) h quiet = λ files is triples g serves holds within. tt
     came_done (Err (answers.Data fault)) (Plain h) quiet = λ files is triples g serves holds within. h.cause.0
     came_done (Err (answers.Query fault)) (Plain h) quiet = λ files is triples g serves holds within. group_memory g fault (h.exact quiet files is (reads_groups g) holds)
@@ -123,39 +123,13 @@ module _ (a : Around) where
         let l = h.complete in
         let there = served_one (codes "localhost") (chosen DefaultGraph (generated persons)) (serving l.server).data_set triples l.starts.data_set serves in
         let asked = one_query grammars.Groups files name (reads_groups own) (reads_groups g) (h.is_read.tells files is) holds in
-        carried (λ (ts : List Triple) (c : Config) (x : GroupData). GroupIsWithin 0 usual_options ts c x → fault ≡ clients.OutOfMemory) (serving l.server).data_set triples there (serving l.server).config (local_config usual_options 100) l.starts.config_is own g (same_group own g asked) l.loops.says within
+        carried (λ (ts : List Triple) (c : Config) (x : GroupData). GroupIsWithin 0 usual_options ts c x → fault ≡ clients.OutOfMemory) (serving l.server).data_set triples there (serving l.server).config usual_config l.starts.config_is own g (same_group own g asked) l.loops.says within
 
     done_counted : (result : Result (Unit {0}) AnswerFault) → CountsFile a.shelf a.shelf' a.out a.out' (wire_inside a.inside') persons name result → ¬ (Rose a.shelf.faults a.shelf'.faults) → ¬ (Rose a.out.faults a.out'.faults)
-        → OfGroupGenerated a.shelf.told persons name (λ triples g. GroupIsWithin 0 usual_options triples (local_config usual_options 100) g → IsDone (counted_status result))
+        → OfGroupGenerated a.shelf.told persons name (λ triples g. GroupIsWithin 0 usual_options triples usual_config g → IsDone (counted_status result))
     done_counted result h quiet fine = λ files is triples g serves holds within. numbers_done h.came result fine h.line (came_done h.came h.asks quiet files is triples g serves holds within)
 
   -- ---- runs
-
-  few_budget : (n : ℕ) → n ≤ 1000000000000 → n < 2 ^ 63
-  few_budget n h = omega (arith, h)
-
-  done_command : (command : Command) → IsInRange command → (end : EndOfRun) → Does a command end → SucceedsGroupsOf a (Some command) (status_of end)
-  done_command (local name query_name choice page client seed fail_every) r (answered data_name asked answer) h = done_file (view_of name query_name choice page client seed fail_every) answer (few_budget client.budget r.2.budget) h.3
-  done_command (local name query_name choice page client seed fail_every) r usage h = absurd h
-  done_command (local name query_name choice page client seed fail_every) r no_words h = absurd h
-  done_command (local name query_name choice page client seed fail_every) r (ends.served file service) h = absurd h
-  done_command (local name query_name choice page client seed fail_every) r (made written) h = absurd h
-  done_command (local name query_name choice page client seed fail_every) r (counted asked result) h = absurd h
-  done_command (query url query_name client) r (answered data_name asked answer) h = done_server query_name url client answer r.0 h.2
-  done_command (query url query_name client) r usage h = absurd h
-  done_command (query url query_name client) r no_words h = absurd h
-  done_command (query url query_name client) r (ends.served file service) h = absurd h
-  done_command (query url query_name client) r (made written) h = absurd h
-  done_command (query url query_name client) r (counted asked result) h = absurd h
-  done_command (federate several) r end h = tt
-  done_command (serve name base choice page stop_after reload rows) r end h = tt
-  done_command (make count None) r end h = tt
-  done_command (make count (Some name)) r (counted asked result) h = done_counted count name result h.1.1
-  done_command (make count (Some name)) r usage h = absurd h.1
-  done_command (make count (Some name)) r no_words h = absurd h.1
-  done_command (make count (Some name)) r (answered data_name asked answer) h = absurd h.1
-  done_command (make count (Some name)) r (ends.served file service) h = absurd h.1
-  done_command (make count (Some name)) r (made written) h = absurd h.1
 
   memory_done : (command : Option Command) → SucceedsGroupsOf a command 8
   memory_done None = tt
@@ -166,12 +140,12 @@ module _ (a : Around) where
   memory_done (Some (make count None)) = tt
   memory_done (Some (make count (Some name))) = λ quiet fine files is triples g serves holds within. inr refl
 
-  groups_done : (command : Option Command) → ((c : Command) → command ≡ Some c → IsInRange c) → (end : EndOfRun) → DoesOf a command end → SucceedsGroupsOf a command (status_of end)
-  groups_done None ranged end h = tt
-  groups_done (Some command) ranged end (inl h) = done_command command (ranged command refl) end h
-  groups_done (Some command) ranged end (inr h) = subst (λ (e : EndOfRun). SucceedsGroupsOf a (Some command) (status_of e)) (sym h.0) (memory_done (Some command))
-
-  -- the status is that of the ending, or 8
   pub run_groups_done : (command : Option Command) → ((c : Command) → command ≡ Some c → IsInRange c) → (end : EndOfRun) (result : ℕ) (err err' : SinkState) → DoesOf a command end → Says result end err err' → SucceedsGroupsOf a command result
-  run_groups_done command ranged end result err err' h (inl s) = subst (SucceedsGroupsOf a command) (sym s.0) (groups_done command ranged end h)
-  run_groups_done command ranged end result err err' h (inr s) = subst (SucceedsGroupsOf a command) (sym s.0) (memory_done command)
+  run_groups_done = of_run a (SucceedsGroupsOf a) tt memory_done (record {
+    of_local = λ name query_name choice page client seed fail_every data_name asked answer h r. done_file (view_of name query_name choice page client seed fail_every) answer (budget_small client.budget r.2.budget) h;
+    of_query = λ url query_name client data_name asked answer h r. done_server query_name url client answer r.0 h;
+    of_federate = λ several data_name asked answer h r. tt;
+    of_serve = λ name base choice page stop_after reload rows file service h r. tt;
+    of_made = λ count written h r. tt;
+    of_counted = λ count name asked result h r. done_counted count name result h;
+  })

@@ -6,6 +6,7 @@ pub mod Said
 pub mod Grouped
 pub mod Asked
 pub mod Commanded
+pub mod Ended
 pub mod Among
 pub mod Refused
 pub mod Completed

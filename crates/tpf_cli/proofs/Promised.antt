@@ -25,7 +25,7 @@ use Rattle.query_command.specs.Files.{FailsByFile}
 use Rattle.query_command.specs.Answers.{FitsOver, OfQuery, IsWanting}
 use Rattle.query_command.specs.Groups.{FileAsked, ServerAsked, GeneratedAsked, Plain, Groups}
 use Rattle.query_command.specs.declared.generated_query.Counts.{Counts}
-use Rattle.query_command.specs.Generated.{usual_options}
+use Rattle.query_command.specs.Generated.{usual_options, usual_config}
 use Rattle.query_command.specs.Loops.{LocalView, local_config}
 use Rattle.query_command.specs.Plans.{plan_of, offer_of, EndsCounted, MayFail, OfFiles, OfGenerated, PlanIsWithin}
 use Rattle.query_command.proofs.Complete.{data_memory}
@@ -35,12 +35,12 @@ use Rattle.serve_command.specs.Services.{ServesFile}
 use Rattle.command_words.specs.declared.command.ClientWords.{ClientWords}
 use Rattle.federate_command.specs.Commands.{FitsServers, ServersAsked}
 use Rattle.command_words.specs.Commands.{Command, Federated, local, query, federate, serve, make}
-use Rattle.tpf_cli.specs.Endings as ends
-use Rattle.tpf_cli.specs.Endings.{EndOfRun, usage, no_words, answered, made, counted, data_status, fault_status, answer_status, service_status, made_status, counted_status, status_of, Says}
+use Rattle.tpf_cli.specs.Endings.{EndOfRun, answered, data_status, fault_status, answer_status, service_status, made_status, counted_status, Says}
 use Rattle.tpf_cli.specs.Ranges.{IsInRange, IsTyped}
-use Rattle.tpf_cli.specs.Runs.{Around, Writes, WritesNumbers, CountsFile, Does, DoesOf, wire_inside, options_of, view_of, config_by}
+use Rattle.tpf_cli.specs.Runs.{Around, Writes, WritesNumbers, CountsFile, DoesOf, wire_inside, options_of, view_of, config_by}
 use Rattle.tpf_cli.proofs.Among.{run_among}
-use Rattle.tpf_cli.proofs.Answered.{budget_small, answered_requests}
+use Rattle.tpf_cli.proofs.Ended.{budget_small, OfEach, each_ending, of_run}
+use Rattle.tpf_cli.proofs.Answered.{answered_requests}
 use Rattle.tpf_cli.proofs.Statuses.{known_fault}
 use Rattle.tpf_cli.proofs.Tables.{done_table, memory_table, data_table, query_table, client_table, cut_table}
 use Rattle.tpf_cli.proofs.Grouped.{no_plain, file_reads, file_output, server_reads, server_output, generated_reads}
@@ -82,27 +82,27 @@ module _ (a : Around) where
   file_succeeds view (Err fault) small (Plain h) quiet fine = λ files is triples q serves holds within. wanting_done fault (h.complete quiet fine small files is triples q serves holds within)
 
   numbers_table : (persons : ℕ) (name : List ℕ) (came : Result Counts AnswerFault) (result : Result (Unit {0}) AnswerFault) → WritesNumbers a.out a.out' came result
-      → OfGenerated a.shelf.told persons name (λ triples q. EndsCounted usual_options triples (local_config usual_options 100) q came) → OfGenerated a.shelf.told persons name (λ triples q. KeepsTable 0 usual_options triples (local_config usual_options 100) q (counted_status result))
-  numbers_table persons name came (Ok nothing) line ends = λ files is triples q serves holds. done_table 0 usual_options (offer_of usual_options triples (local_config usual_options 100) q) (plan_of usual_options triples (local_config usual_options 100) q)
-  numbers_table persons name (Ok counts) (Err fault) line ends = λ files is triples q serves holds. subst (λ (f : AnswerFault). KeepsTable 0 usual_options triples (local_config usual_options 100) q (fault_status f)) (sym line.is) (cut_table 0 usual_options (offer_of usual_options triples (local_config usual_options 100) q) (plan_of usual_options triples (local_config usual_options 100) q) line.cause)
+      → OfGenerated a.shelf.told persons name (λ triples q. EndsCounted usual_options triples usual_config q came) → OfGenerated a.shelf.told persons name (λ triples q. KeepsTable 0 usual_options triples usual_config q (counted_status result))
+  numbers_table persons name came (Ok nothing) line ends = λ files is triples q serves holds. done_table 0 usual_options (offer_of usual_options triples usual_config q) (plan_of usual_options triples usual_config q)
+  numbers_table persons name (Ok counts) (Err fault) line ends = λ files is triples q serves holds. subst (λ (f : AnswerFault). KeepsTable 0 usual_options triples usual_config q (fault_status f)) (sym line.is) (cut_table 0 usual_options (offer_of usual_options triples usual_config q) (plan_of usual_options triples usual_config q) line.cause)
   numbers_table persons name (Err cause) (Err fault) line ends = λ files is triples q serves holds.
-      subst (λ (f : AnswerFault). KeepsTable 0 usual_options triples (local_config usual_options 100) q (fault_status f)) line.0 (fault_table 0 usual_options triples (local_config usual_options 100) q cause (ends files is triples q serves holds))
+      subst (λ (f : AnswerFault). KeepsTable 0 usual_options triples usual_config q (fault_status f)) line.0 (fault_table 0 usual_options triples usual_config q cause (ends files is triples q serves holds))
 
   generated_table : (persons : ℕ) (name : List ℕ) (result : Result (Unit {0}) AnswerFault) → CountsFile a.shelf a.shelf' a.out a.out' (wire_inside a.inside') persons name result
-      → OfGenerated a.shelf.told persons name (λ triples q. KeepsTable 0 usual_options triples (local_config usual_options 100) q (counted_status result))
+      → OfGenerated a.shelf.told persons name (λ triples q. KeepsTable 0 usual_options triples usual_config q (counted_status result))
   generated_table persons name result h = numbers_table persons name h.came result h.line (by h.came h.asks)
     where
-      by : (came : Result Counts AnswerFault) → GeneratedAsked a.shelf a.shelf' (wire_inside a.inside') persons name came → OfGenerated a.shelf.told persons name (λ triples q. EndsCounted usual_options triples (local_config usual_options 100) q came)
+      by : (came : Result Counts AnswerFault) → GeneratedAsked a.shelf a.shelf' (wire_inside a.inside') persons name came → OfGenerated a.shelf.told persons name (λ triples q. EndsCounted usual_options triples usual_config q came)
       by came (Plain g) = g.ends
       by came (Groups g d) = λ files is triples q serves holds. absurd (no_plain grammars.Groups a.shelf.told name g d.is_read files is q holds)
 
   generated_succeeds : (persons : ℕ) (name : List ℕ) (result : Result (Unit {0}) AnswerFault) → CountsFile a.shelf a.shelf' a.out a.out' (wire_inside a.inside') persons name result
       → ¬ (Rose a.shelf.faults a.shelf'.faults) → ¬ (Rose a.out.faults a.out'.faults)
-      → OfGenerated a.shelf.told persons name (λ triples q. PlanIsWithin 0 usual_options triples (local_config usual_options 100) q → IsDone (counted_status result))
+      → OfGenerated a.shelf.told persons name (λ triples q. PlanIsWithin 0 usual_options triples usual_config q → IsDone (counted_status result))
   generated_succeeds persons name result h quiet fine = λ files is triples q serves holds within. numbers_done a h.came result fine h.line (by h.came h.asks files is triples q serves holds within)
     where
       by : (came : Result Counts AnswerFault) → GeneratedAsked a.shelf a.shelf' (wire_inside a.inside') persons name came
-          → OfGenerated a.shelf.told persons name (λ triples q. PlanIsWithin 0 usual_options triples (local_config usual_options 100) q → IfErr came IsWanting)
+          → OfGenerated a.shelf.told persons name (λ triples q. PlanIsWithin 0 usual_options triples usual_config q → IfErr came IsWanting)
       by came (Plain g) = g.complete quiet
       by came (Groups g d) = λ files is triples q serves holds within. absurd (no_plain grammars.Groups a.shelf.told name g d.is_read files is q holds)
 
@@ -134,74 +134,6 @@ module _ (a : Around) where
   made_succeeds count (Err sinks.Failed) h fine = absurd (fine h.1)
   made_succeeds count (Err sinks.OutOfMemory) h fine = inr refl
 
-  -- ---- commands
-
-  table_command : (command : Command) → IsInRange command → (end : EndOfRun) → Does a command end → KeepsTableOf a (Some command) (status_of end)
-  table_command (local name query_name choice page client seed fail_every) r (answered data_name asked answer) h = file_table (view_of name query_name choice page client seed fail_every) answer (budget_small client.budget r.2.budget) h.3
-  table_command (local name query_name choice page client seed fail_every) r usage h = absurd h
-  table_command (local name query_name choice page client seed fail_every) r no_words h = absurd h
-  table_command (local name query_name choice page client seed fail_every) r (ends.served file service) h = absurd h
-  table_command (local name query_name choice page client seed fail_every) r (made written) h = absurd h
-  table_command (local name query_name choice page client seed fail_every) r (counted asked result) h = absurd h
-  table_command (query url query_name client) r (answered data_name asked answer) h = not_twelve answer
-  table_command (query url query_name client) r usage h = absurd h
-  table_command (query url query_name client) r no_words h = absurd h
-  table_command (query url query_name client) r (ends.served file service) h = absurd h
-  table_command (query url query_name client) r (made written) h = absurd h
-  table_command (query url query_name client) r (counted asked result) h = absurd h
-  table_command (federate several) r (answered data_name asked answer) h = not_twelve answer
-  table_command (federate several) r usage h = absurd h
-  table_command (federate several) r no_words h = absurd h
-  table_command (federate several) r (ends.served file service) h = absurd h
-  table_command (federate several) r (made written) h = absurd h
-  table_command (federate several) r (counted asked result) h = absurd h
-  table_command (serve name base choice page stop_after reload rows) r end h = tt
-  table_command (make count None) r end h = tt
-  table_command (make count (Some name)) r (counted asked result) h = generated_table count name result h.1.1
-  table_command (make count (Some name)) r usage h = absurd h.1
-  table_command (make count (Some name)) r no_words h = absurd h.1
-  table_command (make count (Some name)) r (answered data_name asked answer) h = absurd h.1
-  table_command (make count (Some name)) r (ends.served file service) h = absurd h.1
-  table_command (make count (Some name)) r (made written) h = absurd h.1
-
-  succeeds_command : (command : Command) → IsInRange command → (end : EndOfRun) → Does a command end → SucceedsOf a (Some command) (status_of end)
-  succeeds_command (local name query_name choice page client seed fail_every) r (answered data_name asked answer) h = file_succeeds (view_of name query_name choice page client seed fail_every) answer (budget_small client.budget r.2.budget) h.3
-  succeeds_command (local name query_name choice page client seed fail_every) r usage h = absurd h
-  succeeds_command (local name query_name choice page client seed fail_every) r no_words h = absurd h
-  succeeds_command (local name query_name choice page client seed fail_every) r (ends.served file service) h = absurd h
-  succeeds_command (local name query_name choice page client seed fail_every) r (made written) h = absurd h
-  succeeds_command (local name query_name choice page client seed fail_every) r (counted asked result) h = absurd h
-  succeeds_command (query url query_name client) r (answered data_name asked answer) h = server_succeeds query_name client answer url r.0 h.2
-  succeeds_command (query url query_name client) r usage h = absurd h
-  succeeds_command (query url query_name client) r no_words h = absurd h
-  succeeds_command (query url query_name client) r (ends.served file service) h = absurd h
-  succeeds_command (query url query_name client) r (made written) h = absurd h
-  succeeds_command (query url query_name client) r (counted asked result) h = absurd h
-  succeeds_command (federate several) r (answered data_name asked answer) h = servers_succeed several answer r.2 h.2
-  succeeds_command (federate several) r usage h = absurd h
-  succeeds_command (federate several) r no_words h = absurd h
-  succeeds_command (federate several) r (ends.served file service) h = absurd h
-  succeeds_command (federate several) r (made written) h = absurd h
-  succeeds_command (federate several) r (counted asked result) h = absurd h
-  succeeds_command (serve name base choice page stop_after reload rows) r (ends.served file service) h = service_succeeds name choice (config_by base page reload rows) stop_after service h.2
-  succeeds_command (serve name base choice page stop_after reload rows) r usage h = absurd h
-  succeeds_command (serve name base choice page stop_after reload rows) r no_words h = absurd h
-  succeeds_command (serve name base choice page stop_after reload rows) r (answered data_name asked answer) h = absurd h
-  succeeds_command (serve name base choice page stop_after reload rows) r (made written) h = absurd h
-  succeeds_command (serve name base choice page stop_after reload rows) r (counted asked result) h = absurd h
-  succeeds_command (make count None) r (made written) h = made_succeeds count written h.1.3
-  succeeds_command (make count None) r usage h = absurd h.1
-  succeeds_command (make count None) r no_words h = absurd h.1
-  succeeds_command (make count None) r (answered data_name asked answer) h = absurd h.1
-  succeeds_command (make count None) r (ends.served file service) h = absurd h.1
-  succeeds_command (make count None) r (counted asked result) h = absurd h.1
-  succeeds_command (make count (Some name)) r (counted asked result) h = generated_succeeds count name result h.1.1
-  succeeds_command (make count (Some name)) r usage h = absurd h.1
-  succeeds_command (make count (Some name)) r no_words h = absurd h.1
-  succeeds_command (make count (Some name)) r (answered data_name asked answer) h = absurd h.1
-  succeeds_command (make count (Some name)) r (ends.served file service) h = absurd h.1
-  succeeds_command (make count (Some name)) r (made written) h = absurd h.1
-
   -- ---- want of memory
 
   memory_keeps : (command : Option Command) → KeepsTableOf a command 8
@@ -211,7 +143,7 @@ module _ (a : Around) where
   memory_keeps (Some (federate several)) = λ e. omega (arith, e)
   memory_keeps (Some (serve name base choice page stop_after reload rows)) = tt
   memory_keeps (Some (make count None)) = tt
-  memory_keeps (Some (make count (Some name))) = λ files is triples q serves holds. memory_table 0 usual_options (offer_of usual_options triples (local_config usual_options 100) q) (plan_of usual_options triples (local_config usual_options 100) q)
+  memory_keeps (Some (make count (Some name))) = λ files is triples q serves holds. memory_table 0 usual_options (offer_of usual_options triples usual_config q) (plan_of usual_options triples usual_config q)
 
   memory_succeeds : (command : Option Command) → SucceedsOf a command 8
   memory_succeeds None = tt
@@ -224,24 +156,25 @@ module _ (a : Around) where
 
   -- ---- runs
 
-  table_of : (command : Option Command) → ((c : Command) → command ≡ Some c → IsInRange c) → (end : EndOfRun) → DoesOf a command end → KeepsTableOf a command (status_of end)
-  table_of None ranged end h = tt
-  table_of (Some command) ranged end (inl h) = table_command command (ranged command refl) end h
-  table_of (Some command) ranged end (inr h) = subst (λ (e : EndOfRun). KeepsTableOf a (Some command) (status_of e)) (sym h.0) (memory_keeps (Some command))
-
-  succeeds_of : (command : Option Command) → ((c : Command) → command ≡ Some c → IsInRange c) → (end : EndOfRun) → DoesOf a command end → SucceedsOf a command (status_of end)
-  succeeds_of None ranged end h = tt
-  succeeds_of (Some command) ranged end (inl h) = succeeds_command command (ranged command refl) end h
-  succeeds_of (Some command) ranged end (inr h) = subst (λ (e : EndOfRun). SucceedsOf a (Some command) (status_of e)) (sym h.0) (memory_succeeds (Some command))
-
-  -- the status is that of the ending, or 8
   run_table : (command : Option Command) → ((c : Command) → command ≡ Some c → IsInRange c) → (end : EndOfRun) (result : ℕ) (err err' : SinkState) → DoesOf a command end → Says result end err err' → KeepsTableOf a command result
-  run_table command ranged end result err err' h (inl s) = subst (KeepsTableOf a command) (sym s.0) (table_of command ranged end h)
-  run_table command ranged end result err err' h (inr s) = subst (KeepsTableOf a command) (sym s.0) (memory_keeps command)
+  run_table = of_run a (KeepsTableOf a) tt memory_keeps (record {
+    of_local = λ name query_name choice page client seed fail_every data_name asked answer h r. file_table (view_of name query_name choice page client seed fail_every) answer (budget_small client.budget r.2.budget) h;
+    of_query = λ url query_name client data_name asked answer h r. not_twelve answer;
+    of_federate = λ several data_name asked answer h r. not_twelve answer;
+    of_serve = λ name base choice page stop_after reload rows file service h r. tt;
+    of_made = λ count written h r. tt;
+    of_counted = λ count name asked result h r. generated_table count name result h;
+  })
 
   run_succeeds : (command : Option Command) → ((c : Command) → command ≡ Some c → IsInRange c) → (end : EndOfRun) (result : ℕ) (err err' : SinkState) → DoesOf a command end → Says result end err err' → SucceedsOf a command result
-  run_succeeds command ranged end result err err' h (inl s) = subst (SucceedsOf a command) (sym s.0) (succeeds_of command ranged end h)
-  run_succeeds command ranged end result err err' h (inr s) = subst (SucceedsOf a command) (sym s.0) (memory_succeeds command)
+  run_succeeds = of_run a (SucceedsOf a) tt memory_succeeds (record {
+    of_local = λ name query_name choice page client seed fail_every data_name asked answer h r. file_succeeds (view_of name query_name choice page client seed fail_every) answer (budget_small client.budget r.2.budget) h;
+    of_query = λ url query_name client data_name asked answer h r. server_succeeds query_name client answer url r.0 h;
+    of_federate = λ several data_name asked answer h r. servers_succeed several answer r.2 h;
+    of_serve = λ name base choice page stop_after reload rows file service h r. service_succeeds name choice (config_by base page reload rows) stop_after service h;
+    of_made = λ count written h r. made_succeeds count written h.3;
+    of_counted = λ count name asked result h r. generated_succeeds count name result h;
+  })
 
   -- ---- the requests that are told
 
@@ -259,90 +192,34 @@ module _ (a : Around) where
 
   -- ---- what is left of shelf and output
 
-  shelf_command : (command : Command) (end : EndOfRun) → Does a command end → KeepsShelf a.shelf a.shelf'
-  shelf_command (local name query_name choice page client seed fail_every) (answered data_name asked answer) h = (file_reads a.shelf a.shelf' a.out a.out' (wire_inside a.inside') (view_of name query_name choice page client seed fail_every) answer h.3).keeps
-  shelf_command (local name query_name choice page client seed fail_every) usage h = absurd h
-  shelf_command (local name query_name choice page client seed fail_every) no_words h = absurd h
-  shelf_command (local name query_name choice page client seed fail_every) (ends.served file service) h = absurd h
-  shelf_command (local name query_name choice page client seed fail_every) (made written) h = absurd h
-  shelf_command (local name query_name choice page client seed fail_every) (counted asked result) h = absurd h
-  shelf_command (query url query_name client) (answered data_name asked answer) h = reads_keep query_name a.shelf a.shelf' (FailsByFile answer) (server_reads a.shelf a.shelf' query_name a.allows a.wire a.wire' a.out a.out' url (options_of client) answer h.2)
-  shelf_command (query url query_name client) usage h = absurd h
-  shelf_command (query url query_name client) no_words h = absurd h
-  shelf_command (query url query_name client) (ends.served file service) h = absurd h
-  shelf_command (query url query_name client) (made written) h = absurd h
-  shelf_command (query url query_name client) (counted asked result) h = absurd h
-  shelf_command (federate several) (answered data_name asked answer) h = reads_keep several.query a.shelf a.shelf' (FailsByFile answer) h.2.reads
-  shelf_command (federate several) usage h = absurd h
-  shelf_command (federate several) no_words h = absurd h
-  shelf_command (federate several) (ends.served file service) h = absurd h
-  shelf_command (federate several) (made written) h = absurd h
-  shelf_command (federate several) (counted asked result) h = absurd h
-  shelf_command (serve name base choice page stop_after reload rows) (ends.served file service) h = h.2.keeps
-  shelf_command (serve name base choice page stop_after reload rows) usage h = absurd h
-  shelf_command (serve name base choice page stop_after reload rows) no_words h = absurd h
-  shelf_command (serve name base choice page stop_after reload rows) (answered data_name asked answer) h = absurd h
-  shelf_command (serve name base choice page stop_after reload rows) (made written) h = absurd h
-  shelf_command (serve name base choice page stop_after reload rows) (counted asked result) h = absurd h
-  shelf_command (make count None) (made written) h = shelf_same a.shelf a.shelf' h.1.1
-  shelf_command (make count None) usage h = absurd h.1
-  shelf_command (make count None) no_words h = absurd h.1
-  shelf_command (make count None) (answered data_name asked answer) h = absurd h.1
-  shelf_command (make count None) (ends.served file service) h = absurd h.1
-  shelf_command (make count None) (counted asked result) h = absurd h.1
-  shelf_command (make count (Some name)) (counted asked result) h = reads_keep name a.shelf a.shelf' (FailsByFile h.1.1.came) (generated_reads a.shelf a.shelf' name (wire_inside a.inside') count h.1.1.came h.1.1.asks)
-  shelf_command (make count (Some name)) usage h = absurd h.1
-  shelf_command (make count (Some name)) no_words h = absurd h.1
-  shelf_command (make count (Some name)) (answered data_name asked answer) h = absurd h.1
-  shelf_command (make count (Some name)) (ends.served file service) h = absurd h.1
-  shelf_command (make count (Some name)) (made written) h = absurd h.1
+  shelf_each : OfEach a (λ command end. KeepsShelf a.shelf a.shelf')
+  shelf_each = record {
+    of_local = λ name query_name choice page client seed fail_every data_name asked answer h. (file_reads a.shelf a.shelf' a.out a.out' (wire_inside a.inside') (view_of name query_name choice page client seed fail_every) answer h).keeps;
+    of_query = λ url query_name client data_name asked answer h. reads_keep query_name a.shelf a.shelf' (FailsByFile answer) (server_reads a.shelf a.shelf' query_name a.allows a.wire a.wire' a.out a.out' url (options_of client) answer h);
+    of_federate = λ several data_name asked answer h. reads_keep several.query a.shelf a.shelf' (FailsByFile answer) h.reads;
+    of_serve = λ name base choice page stop_after reload rows file service h. h.keeps;
+    of_made = λ count written h. shelf_same a.shelf a.shelf' h.1;
+    of_counted = λ count name asked result h. reads_keep name a.shelf a.shelf' (FailsByFile h.came) (generated_reads a.shelf a.shelf' name (wire_inside a.inside') count h.came h.asks);
+  }
 
-  output_command : (command : Command) (end : EndOfRun) → Does a command end → KeepsSink a.out a.out'
-  output_command (local name query_name choice page client seed fail_every) (answered data_name asked answer) h = (file_output a.shelf a.shelf' a.out a.out' (wire_inside a.inside') (view_of name query_name choice page client seed fail_every) answer h.3).keeps
-  output_command (local name query_name choice page client seed fail_every) usage h = absurd h
-  output_command (local name query_name choice page client seed fail_every) no_words h = absurd h
-  output_command (local name query_name choice page client seed fail_every) (ends.served file service) h = absurd h
-  output_command (local name query_name choice page client seed fail_every) (made written) h = absurd h
-  output_command (local name query_name choice page client seed fail_every) (counted asked result) h = absurd h
-  output_command (query url query_name client) (answered data_name asked answer) h = (server_output a.shelf a.shelf' query_name a.allows a.wire a.wire' a.out a.out' url (options_of client) answer h.2).keeps
-  output_command (query url query_name client) usage h = absurd h
-  output_command (query url query_name client) no_words h = absurd h
-  output_command (query url query_name client) (ends.served file service) h = absurd h
-  output_command (query url query_name client) (made written) h = absurd h
-  output_command (query url query_name client) (counted asked result) h = absurd h
-  output_command (federate several) (answered data_name asked answer) h = h.2.output.keeps
-  output_command (federate several) usage h = absurd h
-  output_command (federate several) no_words h = absurd h
-  output_command (federate several) (ends.served file service) h = absurd h
-  output_command (federate several) (made written) h = absurd h
-  output_command (federate several) (counted asked result) h = absurd h
-  output_command (serve name base choice page stop_after reload rows) (ends.served file service) h = h.2.output
-  output_command (serve name base choice page stop_after reload rows) usage h = absurd h
-  output_command (serve name base choice page stop_after reload rows) no_words h = absurd h
-  output_command (serve name base choice page stop_after reload rows) (answered data_name asked answer) h = absurd h
-  output_command (serve name base choice page stop_after reload rows) (made written) h = absurd h
-  output_command (serve name base choice page stop_after reload rows) (counted asked result) h = absurd h
-  output_command (make count None) (made written) h = h.1.2
-  output_command (make count None) usage h = absurd h.1
-  output_command (make count None) no_words h = absurd h.1
-  output_command (make count None) (answered data_name asked answer) h = absurd h.1
-  output_command (make count None) (ends.served file service) h = absurd h.1
-  output_command (make count None) (counted asked result) h = absurd h.1
-  output_command (make count (Some name)) (counted asked result) h = h.1.1.output
-  output_command (make count (Some name)) usage h = absurd h.1
-  output_command (make count (Some name)) no_words h = absurd h.1
-  output_command (make count (Some name)) (answered data_name asked answer) h = absurd h.1
-  output_command (make count (Some name)) (ends.served file service) h = absurd h.1
-  output_command (make count (Some name)) (made written) h = absurd h.1
+  output_each : OfEach a (λ command end. KeepsSink a.out a.out')
+  output_each = record {
+    of_local = λ name query_name choice page client seed fail_every data_name asked answer h. (file_output a.shelf a.shelf' a.out a.out' (wire_inside a.inside') (view_of name query_name choice page client seed fail_every) answer h).keeps;
+    of_query = λ url query_name client data_name asked answer h. (server_output a.shelf a.shelf' query_name a.allows a.wire a.wire' a.out a.out' url (options_of client) answer h).keeps;
+    of_federate = λ several data_name asked answer h. h.output.keeps;
+    of_serve = λ name base choice page stop_after reload rows file service h. h.output;
+    of_made = λ count written h. h.2;
+    of_counted = λ count name asked result h. h.output;
+  }
 
   run_shelf : (command : Option Command) (end : EndOfRun) → DoesOf a command end → KeepsShelf a.shelf a.shelf'
   run_shelf None end h = shelf_same a.shelf a.shelf' h.1.3
-  run_shelf (Some command) end (inl h) = shelf_command command end h
+  run_shelf (Some command) end (inl h) = each_ending a (λ c e. KeepsShelf a.shelf a.shelf') shelf_each command end h
   run_shelf (Some command) end (inr h) = shelf_same a.shelf a.shelf' h.1.3
 
   run_output : (command : Option Command) (end : EndOfRun) → DoesOf a command end → KeepsSink a.out a.out'
   run_output None end h = sink_same a.out a.out' h.1.0
-  run_output (Some command) end (inl h) = output_command command end h
+  run_output (Some command) end (inl h) = each_ending a (λ c e. KeepsSink a.out a.out') output_each command end h
   run_output (Some command) end (inr h) = sink_same a.out a.out' h.1.0
 
   pub run_keeps : (command : Option Command) → ((c : Command) → command ≡ Some c → IsInRange c) → (end : EndOfRun) (result : ℕ) (err err' : SinkState) → DoesOf a command end → Says result end err err' → KeepsSink err err' → Keeps a command result err err'
@@ -351,7 +228,7 @@ module _ (a : Around) where
     among = run_among a command ranged end result err err' does says;
     table = run_table command ranged end result err err' does says;
     groups = run_group_table a command ranged end result err err' does says;
-    refusal = run_refusal a command end result err err' does says;
+    refusal = run_refusal a command ranged end result err err' does says;
     requests = run_requests command ranged end result err err' does says;
     group_requests = run_group_requests a command ranged end result err err' does says;
     complete = run_succeeds command ranged end result err err' does says;

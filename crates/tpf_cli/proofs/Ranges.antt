@@ -8,11 +8,15 @@ use Rattle.std.specs.Str.{bytes_eq}
 use Rattle.std.specs.List.{All, AllByRecursion, list_any}
 use Rattle.list_laws.specs.Options.{◌>>=◌, when}
 use Rattle.list_laws.proofs.Options.{some_same, bind_some, when_some, map_some}
+use Rattle.rdf_terms.specs.declared.limits.TheConstants.{MOST_ROWS}
 use Rattle.tpf_base.specs.Addresses.{Address, authority_of}
-use Rattle.template_fill.specs.declared.limits.TheConstants.{LONGEST_START}
+use Rattle.tpf_base.specs.declared.limits.TheConstants.{MOST_LINKS}
+use Rattle.tpf_base.specs.declared.usual.TheConstants.{USUAL_WINDOW, USUAL_LINKS, USUAL_RETRIES, USUAL_BUDGET, USUAL_BODY, USUAL_PAGE}
+use Rattle.template_fill.specs.declared.limits.TheConstants.{LARGEST_PAGE, LONGEST_START}
 use Rattle.template_fill.specs.Configurations.{HasReloadPath, is_reload_path}
 use Rattle.template_fill.specs.ReadAddress.{read_address}
-use Rattle.command_words.specs.declared.limits.TheConstants.{LONGEST_TYPED}
+use Rattle.generated_data.specs.declared.limits.TheConstants.{MOST_PERSONS}
+use Rattle.command_words.specs.declared.limits.TheConstants.{LONGEST_TYPED, MOST_WINDOW, MOST_RETRIES, MOST_BUDGET, LARGEST_BODY, MOST_CONNECTIONS, RAREST_FAILURE}
 use Rattle.command_words.specs.declared.command.ClientWords.{ClientWords}
 use Rattle.command_words.specs.Words.{Text, Values, Form, arguments}
 use Rattle.command_words.specs.Commands.{Command, Federated, federate, local_form, query_form, federate_form, serve_form, make_form, is_number, number_after, number_of, number_or, number_in, count_of, url_of, without_query, base_of, reload_of, choice_in, page_in, client_in, url_names, urls_in, url_and, has_authority, are_apart, servers_in, federate_with, rows_in, seed_in, local_from, query_from, federate_from, serve_from, make_from, words_of, command_of, local_of, query_of, federate_of, serve_of, make_of}
@@ -31,34 +35,34 @@ in_range low high usual n (Some text) a b e =
     (subst (λ (k : ℕ). low ≤ k) p.1 (grind (arith, nat_tests, r.0)), subst (λ (k : ℕ). k ≤ high) p.1 (grind (arith, nat_tests, r.1)))
 
 -- one row, or as many as are given
-block_range : (n : ℕ) (given : Option Text) → number_or 2 64 1 given ≡ Some n → (1 ≤ n) × (n ≤ 64)
+block_range : (n : ℕ) (given : Option Text) → number_or 2 MOST_ROWS 1 given ≡ Some n → (1 ≤ n) × (n ≤ MOST_ROWS)
 block_range n None e = let same : 1 ≡ n = some_same e in (omega (arith, same), omega (arith, same))
-block_range n (Some text) e = let r = in_range 2 64 2 n (Some text) (omega arith) (omega arith) e in (omega (arith, r.0), r.1)
+block_range n (Some text) e = let r = in_range 2 MOST_ROWS 2 n (Some text) (omega arith) (omega arith) e in (omega (arith, r.0), r.1)
 
 -- ---- clients
 
 client_range : (values : Values) (client : ClientWords) → client_in values ≡ Some client → IsClient client
 client_range values client e =
-    let w = bind_some (number_in values (codes "window") 1 10000 16) _ client e in
-    let k = bind_some (number_in values (codes "block") 2 64 1) _ client w.2 in
-    let l = bind_some (number_in values (codes "links") 1 256 8) _ client k.2 in
-    let r = bind_some (number_in values (codes "retries") 0 100 2) _ client l.2 in
-    let b = bind_some (number_in values (codes "budget") 1 1000000000000 1000000) _ client r.2 in
-    let m = bind_some (number_in values (codes "max-body") 1 268435456 16777216) _ client b.2 in
+    let w = bind_some (number_in values (codes "window") 1 MOST_WINDOW USUAL_WINDOW) _ client e in
+    let k = bind_some (number_in values (codes "block") 2 MOST_ROWS 1) _ client w.2 in
+    let l = bind_some (number_in values (codes "links") 1 MOST_LINKS USUAL_LINKS) _ client k.2 in
+    let r = bind_some (number_in values (codes "retries") 0 MOST_RETRIES USUAL_RETRIES) _ client l.2 in
+    let b = bind_some (number_in values (codes "budget") 1 MOST_BUDGET USUAL_BUDGET) _ client r.2 in
+    let m = bind_some (number_in values (codes "max-body") 1 LARGEST_BODY USUAL_BODY) _ client b.2 in
     let same : record { window = w.0; block = k.0; links = l.0; retries = r.0; budget = b.0; max_body = m.0 } ≡ client = some_same m.2 in
     let rows = block_range k.0 (values (codes "block")) k.1 in
-    let links = in_range 1 256 8 l.0 (values (codes "links")) (omega arith) (omega arith) l.1 in
+    let links = in_range 1 MOST_LINKS USUAL_LINKS l.0 (values (codes "links")) (omega arith) (omega arith) l.1 in
     subst IsClient same (record {
-      window = (in_range 1 10000 16 w.0 (values (codes "window")) (omega arith) (omega arith) w.1).0;
+      window = (in_range 1 MOST_WINDOW USUAL_WINDOW w.0 (values (codes "window")) (omega arith) (omega arith) w.1).0;
       one = rows.0;
       block = rows.1;
       some = links.0;
       few = links.1;
-      budget = (in_range 1 1000000000000 1000000 b.0 (values (codes "budget")) (omega arith) (omega arith) b.1).1;
+      budget = (in_range 1 MOST_BUDGET USUAL_BUDGET b.0 (values (codes "budget")) (omega arith) (omega arith) b.1).1;
     })
 
-page_range : (values : Values) (page : ℕ) → page_in values ≡ Some page → (1 ≤ page) × (page ≤ 1000)
-page_range values page e = in_range 1 1000 100 page (values (codes "page")) (omega arith) (omega arith) e
+page_range : (values : Values) (page : ℕ) → page_in values ≡ Some page → (1 ≤ page) × (page ≤ LARGEST_PAGE)
+page_range values page e = in_range 1 LARGEST_PAGE USUAL_PAGE page (values (codes "page")) (omega arith) (omega arith) e
 
 -- ---- commands
 
@@ -70,7 +74,7 @@ local_range values c e =
     let client = bind_some (client_in values) _ c choice.2 in
     let page = bind_some (page_in values) _ c client.2 in
     let seed = bind_some (seed_in values) _ c page.2 in
-    let fail_every = bind_some (number_in values (codes "fail-every") 0 1000000000 0) _ c seed.2 in
+    let fail_every = bind_some (number_in values (codes "fail-every") 0 RAREST_FAILURE 0) _ c seed.2 in
     let p = page_range values page.0 page.1 in
     subst IsInRange (some_same fail_every.2) (p.0, p.1, client_range values client.0 client.1)
 
@@ -157,7 +161,7 @@ serve_range values c e =
     let name = bind_some (values (codes "FILE")) _ c reload.2 in
     let choice = bind_some (choice_in values) _ c name.2 in
     let page = bind_some (page_in values) _ c choice.2 in
-    let stop_after = bind_some (count_of 1 1000000000 (values (codes "stop-after"))) _ c page.2 in
+    let stop_after = bind_some (count_of 1 MOST_CONNECTIONS (values (codes "stop-after"))) _ c page.2 in
     let rows = bind_some (rows_in values reload.0) _ c stop_after.2 in
     let text = bind_some (values (codes "base")) base_of base.0 base.1 in
     let p = page_range values page.0 page.1 in
@@ -165,9 +169,9 @@ serve_range values c e =
 
 make_range : (values : Values) (c : Command) → make_from values ≡ Some c → IsInRange c
 make_range values c e =
-    let count = bind_some (values (codes "N") >>= number_of 1 1000000) _ c e in
-    let text = bind_some (values (codes "N")) (number_of 1 1000000) count.0 count.1 in
-    subst IsInRange (some_same count.2) (in_range 1 1000000 1 count.0 (Some text.0) (omega arith) (omega arith) text.2)
+    let count = bind_some (values (codes "N") >>= number_of 1 MOST_PERSONS) _ c e in
+    let text = bind_some (values (codes "N")) (number_of 1 MOST_PERSONS) count.0 count.1 in
+    subst IsInRange (some_same count.2) (in_range 1 MOST_PERSONS 1 count.0 (Some text.0) (omega arith) (omega arith) text.2)
 
 -- ---- words
 

@@ -1,5 +1,5 @@
 -- Which statuses come of queries with groups in one process, and where a query is refused.
-use Rattle.std.proofs.Common.{ℕ, ◌≡◌, ◌⊎◌, ◌<◌, ◌≤◌, ◌^◌, inl, inr, List, Option, Some, None, Result, Ok, Err, codes, refl, sym, ap, subst, arith}
+use Rattle.std.proofs.Common.{ℕ, ◌≡◌, ◌⊎◌, ◌<◌, ◌^◌, inl, inr, List, Option, Some, None, Result, Ok, Err, codes, refl, sym, ap, subst, arith}
 use Rattle.rdf_terms.specs.declared.term.Triple.{Triple}
 use Rattle.tpf_base.specs.Addresses.{Address}
 use Rattle.tpf_base.specs.Causes.{Rose}
@@ -32,20 +32,21 @@ use Rattle.query_command.specs.Blocks.{grammar_of}
 use Rattle.query_command.specs.declared.fault.AnswerFault.{AnswerFault}
 use Rattle.query_command.specs.declared.fault.AnswerFault.TheVariants as answers
 use Rattle.query_command.specs.declared.generated_query.Counts.{Counts}
-use Rattle.query_command.specs.Generated.{usual_options}
+use Rattle.query_command.specs.Generated.{usual_options, usual_config}
 use Rattle.query_command.specs.Loops.{LocalView, local_config}
 use Rattle.query_command.specs.Groups.{group_plan_of, group_offer_of, MayEndGroup, FileAsked, ServerAsked, GeneratedAsked, Plain, Groups}
 use Rattle.federate_command.specs.Commands.{ServersAsked}
 use Rattle.command_words.specs.Commands.{Command, Federated, local, query, federate, serve, make}
 use Rattle.tpf_cli.specs.Endings as ends
-use Rattle.tpf_cli.specs.Endings.{EndOfRun, usage, no_words, answered, made, counted, data_status, query_status, client_status, fault_status, answer_status, counted_status, status_of, Says}
+use Rattle.tpf_cli.specs.Endings.{EndOfRun, data_status, query_status, client_status, fault_status, answer_status, counted_status, Says}
 use Rattle.tpf_cli.specs.Ranges.{IsInRange}
-use Rattle.tpf_cli.specs.Runs.{Around, WritesNumbers, CountsFile, IsRead, GivesEnd, Does, DoesOf, unwritten, wire_inside, options_of, view_of}
+use Rattle.tpf_cli.specs.Runs.{Around, WritesNumbers, CountsFile, IsRead, GivesEnd, DoesOf, unwritten, wire_inside, options_of, view_of}
 use Rattle.tpf_cli.specs.Promises.{KeepsGroupTable, KeepsGroupTableOf, OfGroupFiles, OfGroupGenerated, RefusesBy, RefusesQuery, RefusesOf}
 use Rattle.query_command.proofs.Locals.{same_data}
 use Rattle.tpf_cli.proofs.Statuses.{not_four}
 use Rattle.tpf_cli.proofs.Tables.{done_table, memory_table, data_table, query_table, client_table, cut_table}
 use Rattle.tpf_cli.proofs.Grouped.{no_groups, file_gives, server_gives}
+use Rattle.tpf_cli.proofs.Ended.{budget_small, of_run}
 
 -- ---- the table
 
@@ -74,45 +75,24 @@ module _ (a : Around) where
 
   module _ (persons : ℕ) (name : List ℕ) where
     group_counted : (fault : AnswerFault) → GeneratedAsked a.shelf a.shelf' (wire_inside a.inside') persons name (Err fault)
-        → OfGroupGenerated a.shelf.told persons name (λ triples g. KeepsGroupTable 0 usual_options triples (local_config usual_options 100) g (fault_status fault))
-    group_counted (answers.Data fault) h = λ files is triples g serves holds. data_table 0 usual_options (group_offer_of triples (local_config usual_options 100) g) (group_plan_of triples (local_config usual_options 100) g) fault
-    group_counted (answers.Query fault) h = λ files is triples g serves holds. query_table 0 usual_options (group_offer_of triples (local_config usual_options 100) g) (group_plan_of triples (local_config usual_options 100) g) fault
+        → OfGroupGenerated a.shelf.told persons name (λ triples g. KeepsGroupTable 0 usual_options triples usual_config g (fault_status fault))
+    group_counted (answers.Data fault) h = λ files is triples g serves holds. data_table 0 usual_options (group_offer_of triples usual_config g) (group_plan_of triples usual_config g) fault
+    group_counted (answers.Query fault) h = λ files is triples g serves holds. query_table 0 usual_options (group_offer_of triples usual_config g) (group_plan_of triples usual_config g) fault
     group_counted (answers.Client fault) (Plain h) = λ files is triples g serves holds. absurd (no_groups grammars.Groups a.shelf.told name h.cause.1.loops.says.q h.cause.1.loops.says.is_read files is g holds)
     group_counted (answers.Client fault) (Groups own h) = λ files is triples g serves holds.
         let l = h.ends in
         let there = served_one (codes "localhost") (chosen DefaultGraph (generated persons)) (serving l.server).data_set triples l.starts.data_set serves in
         let asked = one_query grammars.Groups files name (reads_groups own) (reads_groups g) (h.is_read.tells files is) holds in
-        client_table 0 usual_options (group_offer_of triples (local_config usual_options 100) g) (group_plan_of triples (local_config usual_options 100) g) fault
-        (carried (λ (ts : List Triple) (c : Config) (x : GroupData). MayEndGroup 0 usual_options ts c x fault) (serving l.server).data_set triples there (serving l.server).config (local_config usual_options 100) l.starts.config_is own g (same_group own g asked) l.loops.says)
+        client_table 0 usual_options (group_offer_of triples usual_config g) (group_plan_of triples usual_config g) fault
+        (carried (λ (ts : List Triple) (c : Config) (x : GroupData). MayEndGroup 0 usual_options ts c x fault) (serving l.server).data_set triples there (serving l.server).config usual_config l.starts.config_is own g (same_group own g asked) l.loops.says)
 
     group_numbers : (came : Result Counts AnswerFault) (result : Result (Unit {0}) AnswerFault) → WritesNumbers a.out a.out' came result → GeneratedAsked a.shelf a.shelf' (wire_inside a.inside') persons name came
-        → OfGroupGenerated a.shelf.told persons name (λ triples g. KeepsGroupTable 0 usual_options triples (local_config usual_options 100) g (counted_status result))
-    group_numbers came (Ok nothing) line asks = λ files is triples g serves holds. done_table 0 usual_options (group_offer_of triples (local_config usual_options 100) g) (group_plan_of triples (local_config usual_options 100) g)
+        → OfGroupGenerated a.shelf.told persons name (λ triples g. KeepsGroupTable 0 usual_options triples usual_config g (counted_status result))
+    group_numbers came (Ok nothing) line asks = λ files is triples g serves holds. done_table 0 usual_options (group_offer_of triples usual_config g) (group_plan_of triples usual_config g)
     group_numbers (Ok counts) (Err fault) line asks = λ files is triples g serves holds.
-        subst (λ (f : AnswerFault). KeepsGroupTable 0 usual_options triples (local_config usual_options 100) g (fault_status f)) (sym line.is) (cut_table 0 usual_options (group_offer_of triples (local_config usual_options 100) g) (group_plan_of triples (local_config usual_options 100) g) line.cause)
+        subst (λ (f : AnswerFault). KeepsGroupTable 0 usual_options triples usual_config g (fault_status f)) (sym line.is) (cut_table 0 usual_options (group_offer_of triples usual_config g) (group_plan_of triples usual_config g) line.cause)
     group_numbers (Err cause) (Err fault) line asks = λ files is triples g serves holds.
-        subst (λ (f : AnswerFault). KeepsGroupTable 0 usual_options triples (local_config usual_options 100) g (fault_status f)) line.0 (group_counted cause asks files is triples g serves holds)
-
-  few : (n : ℕ) → n ≤ 1000000000000 → n < 2 ^ 63
-  few n h = omega (arith, h)
-
-  group_command : (command : Command) → IsInRange command → (end : EndOfRun) → Does a command end → KeepsGroupTableOf a (Some command) (status_of end)
-  group_command (local name query_name choice page client seed fail_every) r (answered data_name asked answer) h = group_file (view_of name query_name choice page client seed fail_every) answer (few client.budget r.2.budget) h.3
-  group_command (local name query_name choice page client seed fail_every) r usage h = absurd h
-  group_command (local name query_name choice page client seed fail_every) r no_words h = absurd h
-  group_command (local name query_name choice page client seed fail_every) r (ends.served file service) h = absurd h
-  group_command (local name query_name choice page client seed fail_every) r (made written) h = absurd h
-  group_command (local name query_name choice page client seed fail_every) r (counted asked result) h = absurd h
-  group_command (query url query_name client) r end h = tt
-  group_command (federate several) r end h = tt
-  group_command (serve name base choice page stop_after reload rows) r end h = tt
-  group_command (make count None) r end h = tt
-  group_command (make count (Some name)) r (counted asked result) h = group_numbers count name h.1.1.came result h.1.1.line h.1.1.asks
-  group_command (make count (Some name)) r usage h = absurd h.1
-  group_command (make count (Some name)) r no_words h = absurd h.1
-  group_command (make count (Some name)) r (answered data_name asked answer) h = absurd h.1
-  group_command (make count (Some name)) r (ends.served file service) h = absurd h.1
-  group_command (make count (Some name)) r (made written) h = absurd h.1
+        subst (λ (f : AnswerFault). KeepsGroupTable 0 usual_options triples usual_config g (fault_status f)) line.0 (group_counted cause asks files is triples g serves holds)
 
   memory_groups : (command : Option Command) → KeepsGroupTableOf a command 8
   memory_groups None = tt
@@ -121,17 +101,17 @@ module _ (a : Around) where
   memory_groups (Some (federate several)) = tt
   memory_groups (Some (serve name base choice page stop_after reload rows)) = tt
   memory_groups (Some (make count None)) = tt
-  memory_groups (Some (make count (Some name))) = λ files is triples g serves holds. memory_table 0 usual_options (group_offer_of triples (local_config usual_options 100) g) (group_plan_of triples (local_config usual_options 100) g)
+  memory_groups (Some (make count (Some name))) = λ files is triples g serves holds. memory_table 0 usual_options (group_offer_of triples usual_config g) (group_plan_of triples usual_config g)
 
-  groups_of : (command : Option Command) → ((c : Command) → command ≡ Some c → IsInRange c) → (end : EndOfRun) → DoesOf a command end → KeepsGroupTableOf a command (status_of end)
-  groups_of None ranged end h = tt
-  groups_of (Some command) ranged end (inl h) = group_command command (ranged command refl) end h
-  groups_of (Some command) ranged end (inr h) = subst (λ (e : EndOfRun). KeepsGroupTableOf a (Some command) (status_of e)) (sym h.0) (memory_groups (Some command))
-
-  -- the status is that of the ending, or 8
   pub run_group_table : (command : Option Command) → ((c : Command) → command ≡ Some c → IsInRange c) → (end : EndOfRun) (result : ℕ) (err err' : SinkState) → DoesOf a command end → Says result end err err' → KeepsGroupTableOf a command result
-  run_group_table command ranged end result err err' h (inl s) = subst (KeepsGroupTableOf a command) (sym s.0) (groups_of command ranged end h)
-  run_group_table command ranged end result err err' h (inr s) = subst (KeepsGroupTableOf a command) (sym s.0) (memory_groups command)
+  run_group_table = of_run a (KeepsGroupTableOf a) tt memory_groups (record {
+    of_local = λ name query_name choice page client seed fail_every data_name asked answer h r. group_file (view_of name query_name choice page client seed fail_every) answer (budget_small client.budget r.2.budget) h;
+    of_query = λ url query_name client data_name asked answer h r. tt;
+    of_federate = λ several data_name asked answer h r. tt;
+    of_serve = λ name base choice page stop_after reload rows file service h r. tt;
+    of_made = λ count written h r. tt;
+    of_counted = λ count name asked result h r. group_numbers count name h.came result h.line h.asks;
+  })
 
 -- ---- refused queries
 
@@ -271,34 +251,6 @@ module _ (a : Around) where
     memory_refuses_servers : RefusesBy a.shelf a.shelf' HasFault 8
     memory_refuses_servers = record { four = λ e. absurd (omega (arith, e)); refused = λ quiet files is at why bad. inr (inr refl) }
 
-  refusal_command : (command : Command) (end : EndOfRun) → Does a command end → RefusesOf a (Some command) (status_of end)
-  refusal_command (local name query_name choice page client seed fail_every) (answered data_name asked answer) h = refuses_file (view_of name query_name choice page client seed fail_every) answer h.3
-  refusal_command (local name query_name choice page client seed fail_every) usage h = absurd h
-  refusal_command (local name query_name choice page client seed fail_every) no_words h = absurd h
-  refusal_command (local name query_name choice page client seed fail_every) (ends.served file service) h = absurd h
-  refusal_command (local name query_name choice page client seed fail_every) (made written) h = absurd h
-  refusal_command (local name query_name choice page client seed fail_every) (counted asked result) h = absurd h
-  refusal_command (query url query_name client) (answered data_name asked answer) h = refuses_server query_name url (options_of client) answer h.2
-  refusal_command (query url query_name client) usage h = absurd h
-  refusal_command (query url query_name client) no_words h = absurd h
-  refusal_command (query url query_name client) (ends.served file service) h = absurd h
-  refusal_command (query url query_name client) (made written) h = absurd h
-  refusal_command (query url query_name client) (counted asked result) h = absurd h
-  refusal_command (federate several) (answered data_name asked answer) h = refuses_servers several answer h.2
-  refusal_command (federate several) usage h = absurd h
-  refusal_command (federate several) no_words h = absurd h
-  refusal_command (federate several) (ends.served file service) h = absurd h
-  refusal_command (federate several) (made written) h = absurd h
-  refusal_command (federate several) (counted asked result) h = absurd h
-  refusal_command (serve name base choice page stop_after reload rows) end h = tt
-  refusal_command (make count None) end h = tt
-  refusal_command (make count (Some name)) (counted asked result) h = refuses_counted count name result h.1.1
-  refusal_command (make count (Some name)) usage h = absurd h.1
-  refusal_command (make count (Some name)) no_words h = absurd h.1
-  refusal_command (make count (Some name)) (answered data_name asked answer) h = absurd h.1
-  refusal_command (make count (Some name)) (ends.served file service) h = absurd h.1
-  refusal_command (make count (Some name)) (made written) h = absurd h.1
-
   memory_refusal : (command : Option Command) → RefusesOf a command 8
   memory_refusal None = tt
   memory_refusal (Some (local name query_name choice page client seed fail_every)) = memory_refuses (grammar_of (options_of client)) a.shelf a.shelf' query_name
@@ -308,12 +260,12 @@ module _ (a : Around) where
   memory_refusal (Some (make count None)) = tt
   memory_refusal (Some (make count (Some name))) = memory_refuses grammars.Groups a.shelf a.shelf' name
 
-  refusal_of : (command : Option Command) (end : EndOfRun) → DoesOf a command end → RefusesOf a command (status_of end)
-  refusal_of None end h = tt
-  refusal_of (Some command) end (inl h) = refusal_command command end h
-  refusal_of (Some command) end (inr h) = subst (λ (e : EndOfRun). RefusesOf a (Some command) (status_of e)) (sym h.0) (memory_refusal (Some command))
-
-  -- the status is that of the ending, or 8
-  pub run_refusal : (command : Option Command) (end : EndOfRun) (result : ℕ) (err err' : SinkState) → DoesOf a command end → Says result end err err' → RefusesOf a command result
-  run_refusal command end result err err' h (inl s) = subst (RefusesOf a command) (sym s.0) (refusal_of command end h)
-  run_refusal command end result err err' h (inr s) = subst (RefusesOf a command) (sym s.0) (memory_refusal command)
+  pub run_refusal : (command : Option Command) → ((c : Command) → command ≡ Some c → IsInRange c) → (end : EndOfRun) (result : ℕ) (err err' : SinkState) → DoesOf a command end → Says result end err err' → RefusesOf a command result
+  run_refusal = of_run a (RefusesOf a) tt memory_refusal (record {
+    of_local = λ name query_name choice page client seed fail_every data_name asked answer h r. refuses_file (view_of name query_name choice page client seed fail_every) answer h;
+    of_query = λ url query_name client data_name asked answer h r. refuses_server query_name url (options_of client) answer h;
+    of_federate = λ several data_name asked answer h r. refuses_servers several answer h;
+    of_serve = λ name base choice page stop_after reload rows file service h r. tt;
+    of_made = λ count written h r. tt;
+    of_counted = λ count name asked result h r. refuses_counted count name result h;
+  })

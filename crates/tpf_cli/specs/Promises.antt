@@ -25,7 +25,7 @@ use Rattle.data_files.specs.Queries.{HoldsGroup, HasQueryFault}
 use Rattle.data_files.specs.Kept.{KeepsShelf, KeepsSink}
 use Rattle.query_command.specs.Blocks.{grammar_of}
 use Rattle.query_command.specs.Answers.{FitsOver, OfQuery}
-use Rattle.query_command.specs.Generated.{usual_options}
+use Rattle.query_command.specs.Generated.{usual_options, usual_config}
 use Rattle.query_command.specs.Loops.{LocalView, local_config}
 use Rattle.query_command.specs.Groups.{group_plan_of, group_offer_of, GroupIsWithin, FitsGroupOver}
 use Rattle.query_command.specs.Plans.{plan_of, offer_of, CountsRequests, FailsOften, PassesBudget, OfFiles, OfGenerated, PlanIsWithin}
@@ -82,7 +82,7 @@ KeepsTableOf a (Some (query url query_name client)) status = status ≡ 12 → �
 KeepsTableOf a (Some (federate several)) status = status ≡ 12 → ⊥
 KeepsTableOf a (Some (serve name base choice page stop_after reload rows)) status = Unit {0}
 KeepsTableOf a (Some (make count None)) status = Unit {0}
-KeepsTableOf a (Some (make count (Some asked_name))) status = OfGenerated a.shelf.told count asked_name (λ triples q. KeepsTable 0 usual_options triples (local_config usual_options 100) q status)
+KeepsTableOf a (Some (make count (Some asked_name))) status = OfGenerated a.shelf.told count asked_name (λ triples q. KeepsTable 0 usual_options triples usual_config q status)
 
 -- ---- the table of a query with groups in one process
 
@@ -107,7 +107,7 @@ KeepsGroupTableOf a (Some (query url query_name client)) status = Unit {0}
 KeepsGroupTableOf a (Some (federate several)) status = Unit {0}
 KeepsGroupTableOf a (Some (serve name base choice page stop_after reload rows)) status = Unit {0}
 KeepsGroupTableOf a (Some (make count None)) status = Unit {0}
-KeepsGroupTableOf a (Some (make count (Some asked_name))) status = OfGroupGenerated a.shelf.told count asked_name (λ triples g. KeepsGroupTable 0 usual_options triples (local_config usual_options 100) g status)
+KeepsGroupTableOf a (Some (make count (Some asked_name))) status = OfGroupGenerated a.shelf.told count asked_name (λ triples g. KeepsGroupTable 0 usual_options triples usual_config g status)
 
 -- ---- refused queries
 
@@ -187,7 +187,7 @@ SucceedsOf a (Some (serve name base choice page stop_after reload rows)) status 
     → IfTold a.shelf.told (λ files. (triples : List Triple) → Serves files name choice (authority_of base) triples → IsDone status)
 SucceedsOf a (Some (make count None)) status = ¬ (Rose a.out.faults a.out'.faults) → IsDone status
 SucceedsOf a (Some (make count (Some asked_name))) status =
-    ¬ (Rose a.shelf.faults a.shelf'.faults) → ¬ (Rose a.out.faults a.out'.faults) → OfGenerated a.shelf.told count asked_name (λ triples q. PlanIsWithin 0 usual_options triples (local_config usual_options 100) q → IsDone status)
+    ¬ (Rose a.shelf.faults a.shelf'.faults) → ¬ (Rose a.out.faults a.out'.faults) → OfGenerated a.shelf.told count asked_name (λ triples q. PlanIsWithin 0 usual_options triples usual_config q → IsDone status)
 
 -- of the query with groups of a file, where the shelf tells it
 abbrev pub OfGroupQuery : Grammar → Option Files → List ℕ → (GroupData → Type 0) → Type 0
@@ -206,7 +206,7 @@ SucceedsGroupsOf a (Some (federate several)) status = Unit {0}
 SucceedsGroupsOf a (Some (serve name base choice page stop_after reload rows)) status = Unit {0}
 SucceedsGroupsOf a (Some (make count None)) status = Unit {0}
 SucceedsGroupsOf a (Some (make count (Some asked_name))) status =
-    ¬ (Rose a.shelf.faults a.shelf'.faults) → ¬ (Rose a.out.faults a.out'.faults) → OfGroupGenerated a.shelf.told count asked_name (λ triples g. GroupIsWithin 0 usual_options triples (local_config usual_options 100) g → IsDone status)
+    ¬ (Rose a.shelf.faults a.shelf'.faults) → ¬ (Rose a.out.faults a.out'.faults) → OfGroupGenerated a.shelf.told count asked_name (λ triples g. GroupIsWithin 0 usual_options triples usual_config g → IsDone status)
 
 -- ---- the run
 

@@ -2,6 +2,8 @@
 ghost use Rattle.std.specs.Prelude.{◌≡◌, ◌≤◌, ◌<◌, length, None};
 ghost use Rattle.rdf_terms.specs.declared.limits.TheConstants.{MOST_ROWS};
 ghost use Rattle.template_fill.specs.Configurations.{HasReloadPath};
+ghost use Rattle.template_fill.specs.declared.limits.TheConstants.{LARGEST_PAGE};
+ghost use Rattle.generated_data.specs.declared.limits.TheConstants.{MOST_PERSONS};
 ghost use Rattle.data_files.specs.Kept.{KeepsSink};
 ghost use Rattle.query_command.specs.Groups.{FileAsked, ServerAsked};
 ghost use Rattle.federated_query.specs.Servers.{AreApart};
@@ -70,7 +72,7 @@ pub fn ask_file<R: Wait, F: Shelf, K: Sink>(
     inside: &mut Inside,
 ) -> Result<Report, AnswerFault>
     requires low { 1 ≤ words.now.page }
-    requires high { words.now.page ≤ 1000 }
+    requires high { words.now.page ≤ LARGEST_PAGE }
     requires client { IsClient words.now.client }
     ensures { FileAsked (F.state shelf.old) (F.state shelf.new) (K.state out.old) (K.state out.new)
         (wire_inside inside.new) (asked_of words.now) result }
@@ -149,7 +151,7 @@ pub fn serve_file<R: Wait, F: Shelf, W: Accept, K: Sink>(
     out: &mut K,
 ) -> Result<u64, ServiceFault>
     requires low { 1 ≤ words.page }
-    requires high { words.page ≤ 1000 }
+    requires high { words.page ≤ LARGEST_PAGE }
     requires no_query { words.base.query ≡ None }
     requires reload { HasReloadPath words.base words.reload }
     ensures { ServesFile (F.state shelf.old) (F.state shelf.new)
@@ -218,7 +220,7 @@ pub fn ask_generated<R: Wait, F: Shelf, K: Sink>(
     out: &mut K,
     inside: &mut Inside,
 ) -> Result<(), AnswerFault>
-    requires { persons ≤ 1000000 }
+    requires { persons ≤ MOST_PERSONS }
     ensures { CountsFile (F.state shelf.old) (F.state shelf.new) (K.state out.old) (K.state out.new)
         (wire_inside inside.new) persons name.now result }
 {

@@ -1,5 +1,6 @@
 // The top call.
 ghost use Rattle.std.specs.Prelude.{◌≡◌, ◌≤◌, Some, map, string_bytes, option_map};
+ghost use Rattle.generated_data.specs.declared.limits.TheConstants.{MOST_PERSONS};
 ghost use Rattle.command_words.specs.Commands as commands;
 ghost use Rattle.command_words.specs.Commands.{command_of};
 ghost use Rattle.command_words.specs.CommandViews.{command_view};
@@ -38,7 +39,7 @@ fn obey_make<'a, R: Wait, F: Shelf, K: Sink>(
     out: &mut K,
     inside: &mut Inside,
 ) -> Ending<'a>
-    requires most { count ≤ 1000000 }
+    requires most { count ≤ MOST_PERSONS }
     requires unused { inside.old ≡ Inside.Unused }
     ensures does { Makes (F.state shelf.old) (F.state shelf.new) (K.state out.old) (K.state out.new) inside.new
         count (option_map (λ r. r.now) run.entry) (ending_view result) }

@@ -4,14 +4,8 @@ use Rattle.query_command.specs.Groups.{ServerAsked}
 use Rattle.tpf_cli.proofs.Asked.{options_in}
 use Rattle.tpf_cli.proofs.commands.ask_server.Goals as goal
 
-pub query-requires-clause-window : goal.query-requires-clause-window
-query-requires-clause-window g c = (options_in _ _ c.options_of-options.ensures c.requires.client).0
-
-pub query-requires-clause-some : goal.query-requires-clause-some
-query-requires-clause-some g c = (options_in _ _ c.options_of-options.ensures c.requires.client).1
-
-pub query-requires-clause-few : goal.query-requires-clause-few
-query-requires-clause-few g c = (options_in _ _ c.options_of-options.ensures c.requires.client).2
+pub query-requires : goal.query-requires
+query-requires g c = record { bounds = options_in _ _ c.options_of-options.ensures c.requires.client }
 
 pub returns : goal.returns
 returns g c =

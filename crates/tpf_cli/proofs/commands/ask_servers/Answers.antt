@@ -5,14 +5,8 @@ use Rattle.federate_command.specs.Commands.{ServersAsked}
 use Rattle.tpf_cli.proofs.Asked.{options_in}
 use Rattle.tpf_cli.proofs.commands.ask_servers.Goals as goal
 
-pub query_servers-requires-clause-window : goal.query_servers-requires-clause-window
-query_servers-requires-clause-window g c = (options_in _ _ c.options_of-options.ensures c.requires.client).0
-
-pub query_servers-requires-clause-some : goal.query_servers-requires-clause-some
-query_servers-requires-clause-some g c = (options_in _ _ c.options_of-options.ensures c.requires.client).1
-
-pub query_servers-requires-clause-few : goal.query_servers-requires-clause-few
-query_servers-requires-clause-few g c = (options_in _ _ c.options_of-options.ensures c.requires.client).2
+pub query_servers-requires-clause-bounds : goal.query_servers-requires-clause-bounds
+query_servers-requires-clause-bounds g c = options_in _ _ c.options_of-options.ensures c.requires.client
 
 pub returns : goal.returns
 returns g c =
