@@ -21,6 +21,7 @@ mod answer_text;
 mod case;
 mod fault;
 mod files;
+mod results;
 mod rows;
 mod tally;
 mod text;
@@ -33,3 +34,4 @@ pub use answer_text::{
 pub use case::Case;
 pub use fault::CaseFault;
 pub use files::{Answers, run};
+pub use results::sorted_result;

@@ -1,5 +1,6 @@
 // A query with groups, and what bounds its call.
 ghost use Rattle.std.specs.Prelude.{◌≡◌, ◌≤◌};
+ghost use Rattle.tpf_base.specs.declared.usual.TheConstants.{USUAL_LINKS, USUAL_WINDOW};
 
 use crate::outcomes::{text_of, told_of};
 use case_rows::{Case, CaseFault};
@@ -9,7 +10,8 @@ use group_query::GroupQuery;
 use std::alloc::Global;
 use std::sync::Wait;
 use template_fill::WebAddress;
-use tpf_base::{Dial, Failing, MemSink};
+use test_servers::BASE;
+use tpf_base::{Dial, Failing, MemSink, USUAL_BODY, USUAL_LINKS, USUAL_WINDOW};
 use tpf_client::{BlockSize, Options};
 
 /// The member that is a number, or this one where the row lacks it.
@@ -46,21 +48,21 @@ pub fn call_of(alloc: Global, case: &mut Case<'_>) -> Result<Call, CaseFault> {
 }
 
 fn options_of(budget: u64) -> Options
-    ensures window { result.window ≡ 16 }
-    ensures links { result.links ≡ 8 }
+    ensures window { result.window ≡ USUAL_WINDOW }
+    ensures links { result.links ≡ USUAL_LINKS }
 {
     Options {
-        window: 16,
+        window: USUAL_WINDOW,
         block: BlockSize::one(),
-        links: 8,
+        links: USUAL_LINKS,
         retries: 0,
         budget,
-        max_body: 16777216,
+        max_body: USUAL_BODY,
     }
 }
 
 impl Call {
-    /// What comes of the call over a wire to `http://localhost/data`: the text of the result, with its rows in the order of
+    /// What comes of the call over a wire to [`BASE`]: the text of the result, with its rows in the order of
     /// their bytes, and what is reported.
     pub fn outcome<R: Wait, W: Dial>(
         &self,
@@ -68,7 +70,7 @@ impl Call {
         alloc: Global,
         wire: &mut W,
     ) -> Result<String, CaseFault> {
-        let Ok(start) = WebAddress::read(alloc, "http://localhost/data") else {
+        let Ok(start) = WebAddress::read(alloc, BASE) else {
             return Err(CaseFault::Row);
         };
         let query = &self.query;

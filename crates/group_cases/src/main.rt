@@ -4,7 +4,6 @@
 
 mod asked;
 mod outcomes;
-mod servers;
 mod wires;
 
 use case_rows::{Answers, Case, CaseFault, run};

@@ -1,43 +1,13 @@
 // What is shown of a call.
-use case_rows::CaseFault;
+use case_rows::{CaseFault, sorted_result};
 use std::alloc::Global;
 use std::str;
 use tpf_client::{ClientFault, Report};
 
-/// The rows of a result's text, which has at least one, without the first brace and the last.
-fn rows_in(text: &str) -> Option<(&str, &str)> {
-    let Some((front, rest)) = text.split_once("\"bindings\":[{") else {
-        return None;
-    };
-    match rest.strip_suffix("}]}}\n") {
-        Some(rows) => Some((front, rows)),
-        None => None,
-    }
-}
-
-/// The text of a result with its rows in the order of their bytes.
-fn sorted(alloc: Global, text: &str) -> Result<String, CaseFault> {
-    let Some((front, rows)) = rows_in(text) else {
-        return Ok(String::from_str(alloc, text)?);
-    };
-    let mut parts = Vec::new(alloc);
-    for row in rows.split("},{") {
-        parts.push(String::from_str(alloc, row)?)?;
-    }
-    parts.sort()?;
-    let mut out = String::from_str(alloc, front)?;
-    for (i, row) in parts.iter().enumerate() {
-        out.push_str(if i == 0 { "\"bindings\":[{" } else { "},{" })?;
-        out.push_str(row.as_str())?;
-    }
-    out.push_str("}]}}\n")?;
-    Ok(out)
-}
-
 /// The text that was taken, with its rows in the order of their bytes.
 pub fn text_of(alloc: Global, taken: &[u8]) -> Result<String, CaseFault> {
     match str::from_utf8(taken) {
-        Ok(text) => sorted(alloc, text),
+        Ok(text) => sorted_result(alloc, text),
         Err(_) => Err(CaseFault::Row),
     }
 }

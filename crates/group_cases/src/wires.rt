@@ -1,12 +1,12 @@
 // Calls over the wire of a row.
 use crate::asked::{call_of, number_or};
-use crate::servers::server_of;
 use case_rows::{Case, CaseFault};
-use fragment_server::FragmentConnection;
+use fragment_server::{FragmentConnection, FragmentServer};
 use loop_wire::LoopWire;
 use script_wire::{Script, ScriptWire};
 use std::alloc::Global;
 use std::sync::Wait;
+use test_servers::server_of;
 use tpf_base::{Bytes, Failing};
 
 /// `query`, `budget`, `data`, `page`, `seed`: the call over a wire in one process, with this seed, to a server of these data
@@ -16,7 +16,10 @@ pub fn looped<R: Wait>(rt: &R, alloc: Global, case: &mut Case<'_>) -> Result<Str
     let data = case.text(alloc, "data")?;
     let page = number_or(case, "page", 100)?;
     let seed = number_or(case, "seed", 0)?;
-    let server = server_of(alloc, data.as_str(), page)?;
+    let Ok(server) = server_of(alloc, data.as_str(), page) else {
+        return Err(CaseFault::Row);
+    };
+    let server = FragmentServer::new(server);
     let mut wire: LoopWire<FragmentConnection> = LoopWire::new(alloc, server, seed, Failing::Never);
     call.outcome(rt, alloc, &mut wire)
 }

@@ -1,6 +1,7 @@
 // Addresses.
-use crate::slots::{rows_of, slots_of};
+use crate::slots::rows_of;
 use case_rows::{Case, CaseFault, debug_text, truth_text, word_text};
+use case_slots::slots_of;
 use std::alloc::Global;
 use template_fill::{AddressFault, WebAddress, page_address};
 use text_base::OutOfMemory;

@@ -1,7 +1,8 @@
 // What a server says of its fragments: its configuration, and the addresses of pages.
 use crate::addresses::{address_of, given};
-use crate::slots::{rows_of, slots_of};
+use crate::slots::rows_of;
 use case_rows::{Case, CaseFault, truth_text, word_text};
+use case_slots::slots_of;
 use hydra_controls::{Config, address};
 use std::alloc::Global;
 use text_base::Text;

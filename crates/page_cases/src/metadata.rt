@@ -5,8 +5,9 @@ ghost use Rattle.rdf_terms.specs.Fragments.{last_page_of};
 ghost use Rattle.template_fill.specs.Forms.{HasNoBlank};
 
 use crate::controls::config_of;
-use crate::slots::{rows_of, slots_of};
+use crate::slots::rows_of;
 use case_rows::{Case, CaseFault, number_text, push_number};
+use case_slots::slots_of;
 use hydra_controls::{Config, MetadataLines, metadata};
 use nquads_text::write_quad;
 use rdf_terms::{Quad, Slots};

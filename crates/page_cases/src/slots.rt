@@ -1,10 +1,11 @@
 // The slots of a fragment, by the explicit forms of their terms.
-ghost use Rattle.std.specs.Prelude.{IfOk, OnOk};
+ghost use Rattle.std.specs.Prelude.{IfOk};
 ghost use Rattle.std.specs.List.{AllByRecursion};
 ghost use Rattle.rdf_terms.specs.Valid.{IsNotBlank};
-ghost use Rattle.template_fill.specs.Forms.{HasNoBlank, HasNoBlankSlot};
+ghost use Rattle.template_fill.specs.Forms.{HasNoBlank};
 
 use case_rows::{Case, CaseFault, debug_text, number_text, text_of_bytes, word_text};
+use case_slots::{no_blank, slots_of};
 use nquads_text::canonical;
 use rdf_terms::{Slot, Slots, Term};
 use std::alloc::Global;
@@ -35,18 +36,6 @@ fn term_text(alloc: Global, term: &Term) -> Result<String, CaseFault>
     }
 }
 
-/// A slot without a blank node.
-fn no_blank(slot: Slot) -> Result<Slot, CaseFault>
-    ensures { IfOk result HasNoBlankSlot }
-{
-    match slot {
-        Slot::Any => Ok(Slot::Any),
-        Slot::Fixed(Term::Blank(_)) => Err(CaseFault::Row),
-        Slot::Fixed(Term::Iri(iri)) => Ok(Slot::Fixed(Term::Iri(iri))),
-        Slot::Fixed(Term::Literal { form, kind }) => Ok(Slot::Fixed(Term::Literal { form, kind })),
-    }
-}
-
 /// The term of a slot in canonical text, and its explicit form.
 fn slot_text(alloc: Global, slot: Slot) -> Result<String, CaseFault> {
     match no_blank(slot)? {
@@ -63,66 +52,6 @@ pub fn explicit_form(alloc: Global, case: &mut Case<'_>) -> Result<String, CaseF
         Err(ValueFault::OutOfMemory) => Err(CaseFault::OutOfMemory),
         Err(fault) => debug_text(alloc, &fault),
     }
-}
-
-/// The slot with this explicit form.
-fn slot_in(alloc: Global, text: &str) -> Result<Slot, CaseFault>
-    ensures { IfOk result HasNoBlankSlot }
-{
-    match read_explicit(alloc, text) {
-        Ok(slot) => no_blank(slot),
-        Err(_) => Err(CaseFault::Row),
-    }
-}
-
-/// The slot whose explicit form is a member of the row, free where the row has none.
-fn slot_of(alloc: Global, case: &mut Case<'_>, member: &str) -> Result<Slot, CaseFault>
-    ensures { IfOk result HasNoBlankSlot }
-{
-    match case.text_if(alloc, member)? {
-        Some(text) => slot_in(alloc, text.as_str()),
-        None => Ok(Slot::Any),
-    }
-}
-
-/// Sets a slot to the one of a member.
-fn set_slot(
-    alloc: Global,
-    case: &mut Case<'_>,
-    member: &str,
-    slot: &mut Slot,
-) -> Result<(), CaseFault>
-    ensures { OnOk result (HasNoBlankSlot slot.new) }
-{
-    *slot = slot_of(alloc, case, member)?;
-    Ok(())
-}
-
-/// `subject`, `predicate`, `object`: sets slots to those of the members.
-fn set_slots(alloc: Global, case: &mut Case<'_>, slots: &mut Slots) -> Result<(), CaseFault>
-    ensures { OnOk result (HasNoBlank slots.new) }
-{
-    set_slot(alloc, case, "subject", &mut slots.subject)?;
-    set_slot(alloc, case, "predicate", &mut slots.predicate)?;
-    set_slot(alloc, case, "object", &mut slots.object)
-}
-
-/// Slots of which none is fixed.
-fn free() -> Slots {
-    Slots {
-        subject: Slot::Any,
-        predicate: Slot::Any,
-        object: Slot::Any,
-    }
-}
-
-/// `subject`, `predicate`, `object`: slots without a blank node.
-pub fn slots_of(alloc: Global, case: &mut Case<'_>) -> Result<Box<Slots>, CaseFault>
-    ensures { IfOk result (λ b. HasNoBlank b.value) }
-{
-    let mut slots = Box::new(alloc, free())?;
-    set_slots(alloc, case, &mut slots)?;
-    Ok(slots)
 }
 
 /// `subject`, `predicate`, `object`: a row without a blank node.

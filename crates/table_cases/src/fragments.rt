@@ -3,59 +3,14 @@ ghost use Rattle.std.specs.Prelude.{◌≡◌, ◌<◌, ℕ};
 
 use crate::tables::table_of;
 use case_rows::{Case, CaseFault, numbers_text, word_text};
+use case_slots::slots_of;
 use fragment_pages::page;
-use rdf_terms::{Slot, Slots};
+use rdf_terms::Slots;
 use std::alloc::Global;
 use std::marker::Brand;
 use std::sync::ledger::{Blank, Ledger};
-use template_fill::read_explicit;
 use tpf_base::Steps;
 use triple_table::Table;
-
-/// The slot whose explicit form is a member of the row, free where the row has none.
-fn slot_of(alloc: Global, case: &mut Case<'_>, member: &str) -> Result<Slot, CaseFault> {
-    let Some(text) = case.text_if(alloc, member)? else {
-        return Ok(Slot::Any);
-    };
-    match read_explicit(alloc, text.as_str()) {
-        Ok(slot) => Ok(slot),
-        Err(_) => Err(CaseFault::Row),
-    }
-}
-
-/// Sets a slot to the one of a member.
-fn set_slot(
-    alloc: Global,
-    case: &mut Case<'_>,
-    member: &str,
-    slot: &mut Slot,
-) -> Result<(), CaseFault> {
-    *slot = slot_of(alloc, case, member)?;
-    Ok(())
-}
-
-/// `subject`, `predicate`, `object`: sets slots to those of the members.
-fn set_slots(alloc: Global, case: &mut Case<'_>, slots: &mut Slots) -> Result<(), CaseFault> {
-    set_slot(alloc, case, "subject", &mut slots.subject)?;
-    set_slot(alloc, case, "predicate", &mut slots.predicate)?;
-    set_slot(alloc, case, "object", &mut slots.object)
-}
-
-/// Slots of which none is fixed.
-fn free() -> Slots {
-    Slots {
-        subject: Slot::Any,
-        predicate: Slot::Any,
-        object: Slot::Any,
-    }
-}
-
-/// `subject`, `predicate`, `object`: slots.
-fn slots_of(alloc: Global, case: &mut Case<'_>) -> Result<Box<Slots>, CaseFault> {
-    let mut slots = Box::new(alloc, free())?;
-    set_slots(alloc, case, &mut slots)?;
-    Ok(slots)
-}
 
 /// How many triples a page of three has, how many its fragment, and the number of the last page.
 fn sizes<L: Ledger>(
