@@ -1,6 +1,5 @@
 // A server of fragments, as one of numbered versions of data.
 ghost use Rattle.std.specs.Prelude.{◌≡◌, ◌≤◌, ◌<◌, ◌+◌};
-ghost use Rattle.connections.specs.Versions.{MOST_VERSIONS};
 
 use crate::DataSet;
 use connections::Serves;
@@ -53,12 +52,10 @@ impl Serves for FragmentServer {
 
     ghost Follows = { λ old new. new.server.config ≡ old.server.config };
 
-    #[tactic(auto, unfolding(connections::specs::Versions::MOST_VERSIONS))]
     fn version(&self) -> u64 {
         self.server.version()
     }
 
-    #[tactic(auto, unfolding(connections::specs::Versions::MOST_VERSIONS))]
     fn reload(&mut self, table: Table) -> Result<u64, OutOfMemory> {
         self.server.reload(table)
     }

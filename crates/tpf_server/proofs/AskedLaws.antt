@@ -15,11 +15,12 @@ use Rattle.template_fill.specs.HttpAnswer.{NQuads, refusal}
 use Rattle.template_fill.specs.Answers.{asked_by, parameters, question_of}
 use Rattle.page_responses.specs.declared.status.Status.TheVariants.{BadRequest, NotFound}
 use Rattle.page_responses.specs.Serving.{Serving, Version, current, data_of}
+use Rattle.page_responses.specs.Pages.{body_at}
 use Rattle.tpf_server.specs.declared.parameters.Parameters.{Parameters}
 use Rattle.tpf_server.specs.declared.asked.Asking.{Asking}
 use Rattle.tpf_server.specs.declared.asked.Asking.TheVariants.{Refused, Page}
 use Rattle.tpf_server.specs.Parameters.{decoded, found_in, page_in, question_in, rows_in, slots_in}
-use Rattle.tpf_server.specs.Asked.{answer_at, answer_by, answer_for_target, answer_of, body_at}
+use Rattle.tpf_server.specs.Asked.{answer_at, answer_by, answer_for_target, answer_of}
 use Rattle.tpf_server.proofs.Questions.{question_is, slots_fit, with_page}
 
 -- ---- what the parameters ask for

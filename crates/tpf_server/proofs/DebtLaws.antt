@@ -22,10 +22,6 @@ use Rattle.tpf_server.specs.Asked.{IsAsked}
 use Rattle.tpf_server.specs.Opened.{Opens}
 use Rattle.tpf_server.specs.Owed.{Fits, Fills, debt_left, debt_text, queue_text, queued_text}
 
-pub on_ok : {T E P Q : Type 0} (r : Result T E) → (P → Q) → OnOk r P → OnOk r Q
-on_ok (Ok x) f p = f p
-on_ok (Err e) f p = p
-
 -- ---- an answer is begun
 
 wanted_text : (without : Bool) (body : Rest) → rest_text (if without then Nothing else body) ≡ (if without then [] else rest_text body)

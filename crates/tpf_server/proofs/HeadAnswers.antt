@@ -3,7 +3,8 @@ use Rattle.std.proofs.Common.{◌≡◌, ℕ, ◌+◌, ◌⊎◌, Bool, true, fa
 use Rattle.std.specs.Prelude.{codes, bytes_eq, not, nat_lt, nat_le, ◌&&◌}
 use Rattle.std.proofs.lemmas.Bool.{true≢false}
 use Rattle.list_laws.proofs.Bytes.{same_is}
-use Rattle.tpf_base.specs.HttpHeads.{Request, Verdict, Accepted, Rejected, NextRequest, Incomplete, Taken, Refused, next_request, next_at, with_length, judged, judged_head, head_limit, blank_length, head_length, field_lines, taken_whole, names_host, is_target}
+use Rattle.tpf_base.specs.declared.limits.TheConstants.{HEAD_LIMIT, MOST_FIELDS}
+use Rattle.tpf_base.specs.HttpHeads.{Request, Verdict, Accepted, Rejected, NextRequest, Incomplete, Taken, Refused, next_request, next_at, with_length, judged, judged_head, blank_length, head_length, field_lines, taken_whole, names_host, is_target}
 use Rattle.tpf_base.specs.HttpReader.{read_request}
 use Rattle.http_wire.specs.Requests.{Held, asked_of, head_of, holding}
 use Rattle.http_wire.specs.declared.message.Asked.{Asked}
@@ -24,9 +25,10 @@ use Rattle.template_fill.specs.Responses.{answering, head_answer}
 use Rattle.http_wire.proofs.ConnectionLemmas.{heads_at}
 use Rattle.page_responses.specs.Statuses.{code}
 use Rattle.page_responses.specs.Serving.{Serving, IsHistoryOf, data_of}
+use Rattle.page_responses.specs.Pages.{body_at, page_answer_at}
 use Rattle.tpf_server.specs.declared.asked.Asking.TheVariants as asks
 use Rattle.tpf_server.specs.declared.asked.Queued.{Queued}
-use Rattle.tpf_server.specs.Asked.{IsAsked, answer_at, answer_by, answer_for, answer_for_target, answer_of, body_at, is_head, is_other, page_answer_at, refused_with}
+use Rattle.tpf_server.specs.Asked.{IsAsked, answer_at, answer_by, answer_for, answer_for_target, answer_of, is_head, is_other, refused_with}
 use Rattle.tpf_server.specs.Owed.{queued_text}
 use Rattle.tpf_server.specs.Read.{IsAnswered, asks_for}
 
@@ -126,7 +128,7 @@ verdict_if false x y p q = q
 
 judged_fault : (head : List ℕ) → VerdictFault (judged head)
 unfolding judged
-judged_fault head = verdict_if (nat_lt 64 (field_lines head)) (Rejected 431) (judged_head (taken_whole (read_request head))) (inr refl)
+judged_fault head = verdict_if (nat_lt MOST_FIELDS (field_lines head)) (Rejected 431) (judged_head (taken_whole (read_request head))) (inr refl)
     (elim (taken_whole (read_request head)) as (λ h. VerdictFault (judged_head h)) [ None ↦ inl refl | Some h ↦ verdict_if (names_host h && is_target h.target) _ (Rejected 400) tt (inl refl) ])
 
 with_fault : (n : ℕ) (v : Verdict) → VerdictFault v → FaultOf (with_length n v)
@@ -134,9 +136,9 @@ with_fault n (Accepted r) h = tt
 with_fault n (Rejected status) h = h
 
 at_fault : (bytes : List ℕ) (blank : ℕ) (found : Option ℕ) → FaultOf (next_at bytes blank found)
-at_fault bytes blank None = next_if (nat_le head_limit (length bytes)) (Refused 431) Incomplete (inr refl) tt
+at_fault bytes blank None = next_if (nat_le HEAD_LIMIT (length bytes)) (Refused 431) Incomplete (inr refl) tt
 at_fault bytes blank (Some n) =
-    next_if (nat_lt head_limit (blank + n)) (Refused 431) (with_length (blank + n) (judged (take n (drop blank bytes)))) (inr refl)
+    next_if (nat_lt HEAD_LIMIT (blank + n)) (Refused 431) (with_length (blank + n) (judged (take n (drop blank bytes)))) (inr refl)
     (with_fault (blank + n) (judged (take n (drop blank bytes))) (judged_fault (take n (drop blank bytes))))
 
 next_fault : (bytes : List ℕ) → FaultOf (next_request bytes)

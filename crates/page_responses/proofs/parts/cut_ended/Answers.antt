@@ -1,10 +1,10 @@
+use Rattle.std.proofs.lemmas.Result.{on_ok_weaker}
 use Rattle.page_responses.specs.Parts.{plain_marks, term_marks}
-use Rattle.page_responses.proofs.DebtLaws.{on_ok}
 use Rattle.page_responses.proofs.PartLaws.{cuts_then}
 use Rattle.page_responses.proofs.parts.cut_ended.Goals as goal
 
 pub returns-clause-ok : goal.returns-clause-ok
 returns-clause-ok c =
-    on_ok c.cut_plain.result
+    on_ok_weaker c.cut_plain.result
     (cuts_then c.args.cut.now c.cut_term.new.cut c.cut_plain.new.cut (term_marks c.args.term.now) (plain_marks c.args.end.now) c.args.out.now.items c.cut_term.new.out.items c.cut_plain.new.out.items c.in_ok-cut_term.ensures.ok)
     c.cut_plain.ensures.ok

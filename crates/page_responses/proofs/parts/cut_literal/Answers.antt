@@ -1,7 +1,7 @@
 use Rattle.std.proofs.Common.{ℕ, List, [], ◌∷◌, ◌++◌, subst}
+use Rattle.std.proofs.lemmas.Result.{on_ok_weaker}
 use Rattle.rdf_terms.specs.Canon.{canonical_kind}
 use Rattle.page_responses.specs.Parts.{CutsMarks, form_marks, plain_marks}
-use Rattle.page_responses.proofs.DebtLaws.{on_ok}
 use Rattle.page_responses.proofs.PartLaws.{cuts_then}
 use Rattle.page_responses.proofs.parts.cut_literal.Goals as goal
 
@@ -9,7 +9,7 @@ pub returns-clause-ok : goal.returns-clause-ok
 returns-clause-ok c =
     let quote = plain_marks (34 ∷ []) in
     let kind = plain_marks (canonical_kind c.args.kind.now) in
-    on_ok c.cut_kind.result
+    on_ok_weaker c.cut_kind.result
     (λ (last : CutsMarks c.cut_plain-2.new.cut c.cut_kind.new.cut kind c.cut_plain-2.new.out.items c.cut_kind.new.out.items). cuts_then c.args.cut.now c.cut_plain.new.cut c.cut_kind.new.cut quote (form_marks c.args.form.now ++ (quote ++ kind)) c.args.out.now.items c.cut_plain.new.out.items c.cut_kind.new.out.items
     c.in_ok-cut_plain.ensures.ok
     (cuts_then c.cut_plain.new.cut c.cut_form.new.cut c.cut_kind.new.cut (form_marks c.args.form.now) (quote ++ kind) c.cut_plain.new.out.items c.cut_form.new.out.items c.cut_kind.new.out.items
