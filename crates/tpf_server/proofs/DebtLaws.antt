@@ -1,10 +1,10 @@
 -- What is owed, and how it becomes less part by part.
 use Rattle.std.proofs.Common.{◌≡◌, ℕ, ◌-◌, ◌<◌, ◌≤◌, Bool, true, false, List, [], ◌∷◌, ◌++◌, length, take, Result, Ok, Err, refl, ap, ap₂, sym, subst, ◌∙◌, arith, append_assoc, append-nil, length-append, if◌then◌else◌}
-use Rattle.std.specs.Prelude.{nat_lt, ◌||◌, OnErr, OnOk}
+use Rattle.std.specs.Prelude.{nat_lt, ◌||◌, OnOk, is_err}
 use Rattle.std.specs.List.{AllByRecursion}
 use Rattle.std.proofs.lemmas.Bool.{or_parts, true≢false}
 use Rattle.list_laws.specs.Begins.{Begins}
-use Rattle.list_laws.proofs.Begins.{cut_back, same_begins}
+use Rattle.list_laws.proofs.Begins.{cut_back}
 use Rattle.tpf_base.specs.declared.limits.TheConstants.{ENOUGH_PENDING}
 use Rattle.template_fill.specs.Metadata.{Config}
 use Rattle.template_fill.specs.HttpAnswer.{MediaType, answer_text, head_text}
@@ -18,9 +18,10 @@ use Rattle.page_responses.specs.Rests.{IsWithin, is_left, rest_text}
 use Rattle.page_responses.proofs.RestLaws.{rest_done, no_length}
 use Rattle.tpf_server.specs.declared.limits.TheConstants.{MOST_PENDING}
 use Rattle.tpf_server.specs.declared.asked.Queued.{Queued}
+use Rattle.tpf_server.specs.declared.owed.Debt.{Debt}
 use Rattle.tpf_server.specs.Asked.{IsAsked}
 use Rattle.tpf_server.specs.Opened.{Opens}
-use Rattle.tpf_server.specs.Owed.{Fits, Fills, debt_left, debt_text, queue_text, queued_text}
+use Rattle.tpf_server.specs.Owed.{Fills, FillsUp, Fits, debt_left, debt_text, queue_text, queued_text}
 
 -- ---- an answer is begun
 
@@ -141,23 +142,13 @@ left_settled rest new waiting same none = ap (λ (b : Bool). b || nat_lt 0 (leng
 
 -- ---- what was appended is taken back where memory was wanting
 
-pub back_fills : {T E : Type 0} (r : Result T E) (debt left : List ℕ) (taken : ℕ) (before made after : List ℕ) → OnOk r (after ≡ made) → OnOk r (Fills debt left taken before made) → OnOk r (Fills debt left taken before after)
-back_fills (Ok x) debt left taken before made after same fills = subst (λ (l : List ℕ). Fills debt left taken before l) (sym same) fills
-back_fills (Err e) debt left taken before made after same fills = fills
+pub back_is : (n : ℕ) (before made after : List ℕ) → after ≡ take n made → n ≡ length before → Begins before made → after ≡ before
+back_is n before made after same size front = same ∙ ap (λ (k : ℕ). take k made) size ∙ cut_back before made front
 
-pub back_enough : {T E : Type 0} (r : Result T E) (P : List ℕ → Type 0) (made after : List ℕ) → OnOk r (after ≡ made) → OnOk r (P made) → OnOk r (P after)
-back_enough (Ok x) P made after same enough = subst P (sym same) enough
-back_enough (Err e) P made after same enough = enough
+pub back_few : (taken : ℕ) (before after : List ℕ) → after ≡ before → length before - taken ≤ MOST_PENDING → length after - taken ≤ MOST_PENDING
+back_few taken before after same few = omega (arith, few, ap (λ (l : List ℕ). length l) same)
 
-pub back_begins : {T E : Type 0} (r : Result T E) (before made after : List ℕ) → OnOk r (after ≡ made) → OnErr r (after ≡ before) → Begins before made → Begins before after
-back_begins (Ok x) before made after ok err front = subst (Begins before) (sym ok) front
-back_begins (Err e) before made after ok err front = same_begins before after err
-
-pub back_few : {T E : Type 0} (r : Result T E) (debt left : List ℕ) (taken : ℕ) (before after : List ℕ) → OnOk r (Fills debt left taken before after) → OnErr r (after ≡ before)
+pub filled_few : {T E : Type 0} (r : Result T E) (config : Config) (taken : ℕ) (old new : Debt) (before after : List ℕ) → is_err r ≡ false → OnOk r (FillsUp config taken old new before after)
     → length before - taken ≤ MOST_PENDING → length after - taken ≤ MOST_PENDING
-back_few (Ok x) debt left taken before after fills err few = fills.few few
-back_few (Err e) debt left taken before after fills err few = omega (arith, few, ap (λ (l : List ℕ). length l) err)
-
-pub back_err : {T E : Type 0} (r : Result T E) (n : ℕ) (before made after : List ℕ) → OnErr r (after ≡ take n made) → n ≡ length before → Begins before made → OnErr r (after ≡ before)
-back_err (Ok x) n before made after same size front = tt
-back_err (Err e) n before made after same size front = same ∙ ap (λ (k : ℕ). take k made) size ∙ cut_back before made front
+filled_few (Ok x) config taken old new before after none filled few = filled.fills.few few
+filled_few (Err e) config taken old new before after none filled few = absurd (true≢false none)

@@ -1,13 +1,12 @@
 // What is owed on a connection: the rest of an answer that was begun, and the answers behind it.
-ghost use Rattle.std.specs.Prelude.{◌≡◌, ◌⊎◌, ◌-◌, ◌≤◌, [], true, false, None, length, take, IfOk, OnOk, OnErr, if◌then◌else◌};
+ghost use Rattle.std.specs.Prelude.{◌≡◌, ◌-◌, ◌≤◌, [], true, None, length, IfOk, OnOk, if◌then◌else◌};
 ghost use Rattle.list_laws.specs.Begins.{Begins};
-ghost use Rattle.tpf_base.specs.declared.limits.TheConstants.{ENOUGH_PENDING};
 ghost use Rattle.page_responses.specs.Given.{IsGiven};
 ghost use Rattle.page_responses.specs.Rests.{IsWithin, rest_text};
 ghost use Rattle.tpf_server.specs.declared.limits.TheConstants.{MOST_PENDING};
 ghost use Rattle.tpf_server.specs.Asked.{IsAsked};
 ghost use Rattle.tpf_server.specs.Opened.{Opens};
-ghost use Rattle.tpf_server.specs.Owed.{Fits, Fills, debt_left, debt_text, queued_text};
+ghost use Rattle.tpf_server.specs.Owed.{FillsUp, Fits, debt_left, debt_text, queued_text};
 ghost use Rattle.tpf_server.specs.Read.{IsQueued, ReadsHead, ReadsHeads};
 ghost use Rattle.tpf_server.specs.Reloads.{ReadsOn};
 
@@ -34,23 +33,6 @@ fn body_or_nothing(without_body: bool, body: Rest) -> Rest
     ensures { result ≡ (if without_body then Rest.Nothing else body) }
 {
     if without_body { Rest::Nothing } else { body }
-}
-
-/// Takes back what was appended since `out` had this length, where the writing failed.
-#[tactic(auto, using(list_laws::proofs::Begins::cut_back))]
-fn taken_back(
-    written: Result<(), OutOfMemory>,
-    before: usize,
-    out: &mut Vec<u8>,
-) -> Result<(), OutOfMemory>
-    ensures same { result ≡ written }
-    ensures ok { OnOk result (out.new.items ≡ out.old.items) }
-    ensures err { OnErr result (out.new.items ≡ take before out.old.items) }
-{
-    if written.is_err() {
-        out.truncate(before);
-    }
-    written
 }
 
 /// The answer to what is asked for.
@@ -242,11 +224,7 @@ impl Debt {
     ) -> Result<(), OutOfMemory>
         requires fits { Fits self.old.rest self.old.waiting.items }
         requires given { given ≤ length out.old.items }
-        ensures ok { OnOk result (Fills (debt_text config.now self.old.rest self.old.waiting.items)
-            (debt_text config.now self.new.rest self.new.waiting.items) given out.old.items out.new.items) }
-        ensures enough { OnOk result ((ENOUGH_PENDING ≤ length out.new.items - given)
-            ⊎ (debt_left self.new.rest self.new.waiting.items ≡ false)) }
-        ensures fits { OnOk result (Fits self.new.rest self.new.waiting.items) }
+        ensures ok { OnOk result (FillsUp config.now given self.old self.new out.old.items out.new.items) }
         ensures front { Begins out.old.items out.new.items }
     {
         while out.len() - given < ENOUGH_PENDING && self.is_left() {
@@ -259,7 +237,6 @@ impl Debt {
     /// Appends parts until `ENOUGH_PENDING` bytes stand behind the `given` ones, or nothing is owed; so
     /// at most `MOST_PENDING` stand there, where no more stood there before. After `OutOfMemory` `out` is
     /// as before.
-    #[tactic(auto, using(list_laws::proofs::Begins::cut_back))]
     pub fn fill(
         &mut self,
         alloc: Global,
@@ -269,16 +246,15 @@ impl Debt {
     ) -> Result<(), OutOfMemory>
         requires fits { Fits self.old.rest self.old.waiting.items }
         requires given { given ≤ length out.old.items }
-        ensures ok { OnOk result (Fills (debt_text config.now self.old.rest self.old.waiting.items)
-            (debt_text config.now self.new.rest self.new.waiting.items) given out.old.items out.new.items) }
-        ensures enough { OnOk result ((ENOUGH_PENDING ≤ length out.new.items - given)
-            ⊎ (debt_left self.new.rest self.new.waiting.items ≡ false)) }
-        ensures fits { OnOk result (Fits self.new.rest self.new.waiting.items) }
+        ensures ok { OnOk result (FillsUp config.now given self.old self.new out.old.items out.new.items) }
         ensures front { Begins out.old.items out.new.items }
         ensures few { length out.old.items - given ≤ MOST_PENDING → length out.new.items - given ≤ MOST_PENDING }
     {
         let before = out.len();
         let filled = self.fill_on(alloc, config, given, out);
-        taken_back(filled, before, out)
+        if filled.is_err() {
+            out.truncate(before);
+        }
+        filled
     }
 }

@@ -23,7 +23,7 @@ pub invariant_of-self-2 : goal.invariant_of-self-2
 invariant_of-self-2 c = (
   half_on c.self.inside.given c.self.inside.bytes.items c.fill.new.out.items c.self.invariant.0 c.in_ok-fill.ensures.front,
   c.self.invariant.1,
-  same_fits c.fill.new.self.rest c.give_back.new.self.rest c.fill.new.self.waiting.items c.give_back.new.self.waiting.items c.give_back.ensures.rest c.give_back.ensures.waiting c.in_ok-fill.ensures.fits,
+  same_fits c.fill.new.self.rest c.give_back.new.self.rest c.fill.new.self.waiting.items c.give_back.new.self.waiting.items c.give_back.ensures.rest c.give_back.ensures.waiting c.in_ok-fill.ensures.ok.fits,
   c.in_ok-fill.ensures.few c.self.invariant.3,
 )
 
@@ -32,7 +32,7 @@ returns-clause-ok c =
     makes_kept c.args.server.now.config c.config.result.now c.self.inside.requests.bytes c.replace-debt.result.rest c.fill.new.self.rest c.give_back.new.self.rest c.replace-debt.result.waiting.items c.fill.new.self.waiting.items c.give_back.new.self.waiting.items c.self.inside.bytes.items c.fill.new.out.items c.self.inside.given c.self.inside.reading c.self.inside.starved c.args.self.now
     c.config.ensures
     (ap (λ (d : Debt). conversation c.self.inside.requests.bytes c.self.inside.reading d.rest d.waiting.items (drop c.self.inside.given c.self.inside.bytes.items) c.self.inside.starved) c.replace-debt.ensures.value ∙ c.self.view_is)
-    c.self.invariant.0 c.requires.fed c.in_ok-fill.ensures.ok c.in_ok-fill.ensures.enough c.give_back.ensures.rest c.give_back.ensures.waiting
+    c.self.invariant.0 c.requires.fed c.in_ok-fill.ensures.ok.fills c.in_ok-fill.ensures.ok.enough c.give_back.ensures.rest c.give_back.ensures.waiting
 
 pub returns-clause-some : goal.returns-clause-some
 returns-clause-some c =
@@ -41,7 +41,7 @@ returns-clause-some c =
     (makes_kept c.args.server.now.config c.config.result.now c.self.inside.requests.bytes c.replace-debt.result.rest c.fill.new.self.rest c.give_back.new.self.rest c.replace-debt.result.waiting.items c.fill.new.self.waiting.items c.give_back.new.self.waiting.items c.self.inside.bytes.items c.fill.new.out.items c.self.inside.given c.self.inside.reading c.self.inside.starved c.args.self.now
     c.config.ensures
     (ap (λ (d : Debt). conversation c.self.inside.requests.bytes c.self.inside.reading d.rest d.waiting.items (drop c.self.inside.given c.self.inside.bytes.items) c.self.inside.starved) c.replace-debt.ensures.value ∙ c.self.view_is)
-    c.self.invariant.0 c.requires.fed c.in_ok-fill.ensures.ok c.in_ok-fill.ensures.enough c.give_back.ensures.rest c.give_back.ensures.waiting)
+    c.self.invariant.0 c.requires.fed c.in_ok-fill.ensures.ok.fills c.in_ok-fill.ensures.ok.enough c.give_back.ensures.rest c.give_back.ensures.waiting)
     (subst (λ (x : Conversation). Fits x.rest x.waiting) c.self.view_is c.self.invariant.2) c.requires.fed left
 
 pub returns-clause-few : goal.returns-clause-few

@@ -14,16 +14,14 @@ loop-self-preserved c = (
 )
 
 pub returns-clause-ok : goal.returns-clause-ok
-returns-clause-ok c =
-    fills_settled (debt_text c.args.config.now c.args.self.now.rest c.args.self.now.waiting.items) (debt_text c.args.config.now c.loop-self.self.rest c.loop-self.self.waiting.items) (debt_text c.args.config.now c.settle.new.self c.loop-self.self.waiting.items) c.args.given c.args.out.now.items c.loop-self.out.items
-    (debt_settled c.args.config.now c.loop-self.self.rest c.settle.new.self c.loop-self.self.waiting.items c.settle.ensures.text) c.loop-self.invariant.0
-
-pub returns-clause-enough : goal.returns-clause-enough
-returns-clause-enough c =
-    elim c.loop-self-test.branch [
-      | then-loop-self-test+else-is_left w ↦ inr (left_settled c.loop-self.self.rest c.settle.new.self c.loop-self.self.waiting.items c.settle.ensures.left (sym w.is_left.ensures ∙ w.if-is_left.false))
-      | else-loop-self-test w ↦ inl (omega (arith, w.loop-self-test.false, c.len.ensures))
-    ]
-
-pub returns-clause-fits : goal.returns-clause-fits
-returns-clause-fits c = record { range = c.settle.ensures.range c.loop-self.invariant.1.range; asked = c.loop-self.invariant.1.asked }
+returns-clause-ok c = record {
+  fills =
+      fills_settled (debt_text c.args.config.now c.args.self.now.rest c.args.self.now.waiting.items) (debt_text c.args.config.now c.loop-self.self.rest c.loop-self.self.waiting.items) (debt_text c.args.config.now c.settle.new.self c.loop-self.self.waiting.items) c.args.given c.args.out.now.items c.loop-self.out.items
+      (debt_settled c.args.config.now c.loop-self.self.rest c.settle.new.self c.loop-self.self.waiting.items c.settle.ensures.text) c.loop-self.invariant.0;
+  enough =
+      elim c.loop-self-test.branch [
+        | then-loop-self-test+else-is_left w ↦ inr (left_settled c.loop-self.self.rest c.settle.new.self c.loop-self.self.waiting.items c.settle.ensures.left (sym w.is_left.ensures ∙ w.if-is_left.false))
+        | else-loop-self-test w ↦ inl (omega (arith, w.loop-self-test.false, c.len.ensures))
+      ];
+  fits = record { range = c.settle.ensures.range c.loop-self.invariant.1.range; asked = c.loop-self.invariant.1.asked };
+}
