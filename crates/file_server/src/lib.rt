@@ -3,7 +3,7 @@
 //! The server of the file with a name, where its fragments stand below a base:
 //!
 //! ```rust
-//! let config = config_of(base, page_size, reload);
+//! let config = config_of(base, page_size, reload, rows);
 //! let mut server = match server_of_file(alloc, shelf, name, choice, config) {
 //!     Ok(server) => server,
 //!     Err(fault) => return Err(ServiceFault::Data(fault)),

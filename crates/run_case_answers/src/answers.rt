@@ -2,10 +2,10 @@
 ghost use Rattle.std.specs.Prelude.{◌≡◌};
 
 use crate::commands::command;
-use crate::loops::{looped, sent_over, together};
+use crate::loops::{Looped, Together, sent_over};
 use case_rows::{Answers, Case, CaseFault};
 use run_case_rows::{
-    Outcome, Runs, alone, changing, each_byte, each_write, fronts, scripted, traffic,
+    Outcome, Runs, Scripted, alone, changing, each_byte, each_write, fronts, shown_over, traffic,
 };
 use std::alloc::Global;
 use std::sync::Wait;
@@ -67,10 +67,10 @@ impl<R: Wait> Answers for Program<'_, R> {
             "command" => command(alloc, case),
             "run" => alone(self, alloc, case),
             "traffic" => traffic(self, alloc, case),
-            "scripted" => scripted(self, alloc, case),
+            "scripted" => shown_over(&Scripted, self, alloc, case),
             "changing" => changing(self, alloc, case),
-            "looped" => looped(self, alloc, case),
-            "together" => together(self, alloc, case),
+            "looped" => shown_over(&Looped, self, alloc, case),
+            "together" => shown_over(&Together, self, alloc, case),
             "fronts" => fronts(self, alloc, case),
             "each_byte" => each_byte(self, alloc, case),
             "each_write" => each_write(self, alloc, case),

@@ -2,7 +2,23 @@
 //! wires in memory. The program hands in the runtime, and has nothing but the names of the files:
 //!
 //! ```rust
-//! run(&rt, &Program { rt: &rt }, "names.json", &["commands.jsonl", "runs.jsonl"])
+//! run(
+//!     &rt,
+//!     &Program { rt: &rt },
+//!     "names.json",
+//!     &[
+//!         "commands.jsonl",
+//!         "runs.jsonl",
+//!         "faults.jsonl",
+//!         "wires.jsonl",
+//!         "servers.jsonl",
+//!         "rows.jsonl",
+//!         "blocks.jsonl",
+//!         "group_examples.jsonl",
+//!         "groups.jsonl",
+//!         "group_faults.jsonl",
+//!     ],
+//! )
 //! ```
 #![tactic(auto)]
 

@@ -5,7 +5,7 @@ use fragment_server::{FragmentConnection, FragmentServer};
 use hydra_controls::Config;
 use loop_wire::{Behind, LoopWire, Several};
 use run_case_rows::{
-    Failure, Outcome, Runs, Setup, WithDoor, ended_on, failure_of, push_sent, setup_of, show_of,
+    Failure, Outcome, Over, Runs, Setup, WithDoor, ended_on, failure_of, push_sent,
 };
 use std::alloc::Global;
 use template_fill::WebAddress;
@@ -89,32 +89,24 @@ where
     Ok(outcome)
 }
 
-/// `page`, `rows`, `seed`, `wire_fails`: how the run over such a wire ends.
-fn looped_outcome<P: Runs>(
-    program: &P,
-    alloc: Global,
-    case: &mut Case<'_>,
-    setup: &Setup,
-) -> Result<Box<Outcome>, CaseFault> {
-    let server = server_of(alloc, case, setup)?;
-    let seed = case.number_if("seed")?.unwrap_or(0);
-    let failure = failure_of(alloc, case, "wire_fails")?;
-    let mut wire = loop_to(alloc, server, seed, failure)?;
-    over_loop(program, alloc, setup, &mut wire)
-}
+/// `page`, `rows`, `seed`, `wire_fails`: a wire in one process, with this seed, to a server of the file `d` at
+/// `http://localhost/data` with so many triples a page, which reads rows where the row has `rows`.
+pub struct Looped;
 
-/// The members of `run` but `seeds`, and `page`, `rows`, `seed`, `wire_fails`: the run over a wire in one process, with
-/// this seed, to a server of the file `d` at `http://localhost/data` with so many triples a page, which reads rows where
-/// the row has `rows`.
-pub fn looped<P: Runs>(
-    program: &P,
-    alloc: Global,
-    case: &mut Case<'_>,
-) -> Result<String, CaseFault> {
-    let setup = setup_of(program, alloc, case)?;
-    let show = show_of(alloc, case)?;
-    let outcome = looped_outcome(program, alloc, case, &setup)?;
-    show.outcome(alloc, &outcome)
+impl Over for Looped {
+    fn outcome<P: Runs>(
+        &self,
+        program: &P,
+        alloc: Global,
+        case: &mut Case<'_>,
+        setup: &Setup,
+    ) -> Result<Box<Outcome>, CaseFault> {
+        let server = server_of(alloc, case, setup)?;
+        let seed = case.number_if("seed")?.unwrap_or(0);
+        let failure = failure_of(alloc, case, "wire_fails")?;
+        let mut wire = loop_to(alloc, server, seed, failure)?;
+        over_loop(program, alloc, setup, &mut wire)
+    }
 }
 
 /// A shelf with one file, `d`, which holds these bytes.
@@ -146,31 +138,24 @@ fn servers_in(alloc: Global, case: &mut Case<'_>) -> Result<Vec<FragmentServer>,
     Ok(servers)
 }
 
-/// `servers`, `seed`, `wire_fails`: how the run over a wire to these servers ends.
-fn together_outcome<P: Runs>(
-    program: &P,
-    alloc: Global,
-    case: &mut Case<'_>,
-    setup: &Setup,
-) -> Result<Box<Outcome>, CaseFault> {
-    let seed = case.number_if("seed")?.unwrap_or(0);
-    let failing = failure_of(alloc, case, "wire_fails")?.failing(alloc)?;
-    let servers = servers_in(alloc, case)?;
-    let wire: LoopWire<FragmentConnection, Several> = LoopWire::to_servers(
-        alloc, servers, seed, failing,
-    );
-    over_loop(program, alloc, setup, &mut WithDoor::new(wire))
-}
+/// `servers`, `seed`, `wire_fails`: a wire in one process, with this seed, to servers each of which serves its `data`
+/// `at` an address, with so many triples a `page`.
+pub struct Together;
 
-/// The members of `run` but `seeds`, and `servers`, `seed`, `wire_fails`: the run over a wire in one process, with this seed,
-/// to servers each of which serves its `data` `at` an address, with so many triples a `page`.
-pub fn together<P: Runs>(
-    program: &P,
-    alloc: Global,
-    case: &mut Case<'_>,
-) -> Result<String, CaseFault> {
-    let setup = setup_of(program, alloc, case)?;
-    let show = show_of(alloc, case)?;
-    let outcome = together_outcome(program, alloc, case, &setup)?;
-    show.outcome(alloc, &outcome)
+impl Over for Together {
+    fn outcome<P: Runs>(
+        &self,
+        program: &P,
+        alloc: Global,
+        case: &mut Case<'_>,
+        setup: &Setup,
+    ) -> Result<Box<Outcome>, CaseFault> {
+        let seed = case.number_if("seed")?.unwrap_or(0);
+        let failing = failure_of(alloc, case, "wire_fails")?.failing(alloc)?;
+        let servers = servers_in(alloc, case)?;
+        let wire: LoopWire<FragmentConnection, Several> = LoopWire::to_servers(
+            alloc, servers, seed, failing,
+        );
+        over_loop(program, alloc, setup, &mut WithDoor::new(wire))
+    }
 }

@@ -4,7 +4,7 @@
 //! ```rust
 //! "run" => alone(self, alloc, case),
 //! "traffic" => traffic(self, alloc, case),
-//! "scripted" => scripted(self, alloc, case),
+//! "scripted" => shown_over(&Scripted, self, alloc, case),
 //! ```
 #![tactic(auto)]
 
@@ -25,4 +25,4 @@ pub use program::{Runs, ended_on};
 pub use rows::{alone, traffic};
 pub use sent::push_sent;
 pub use setups::{Failure, Setup, failure_of, setup_of, words_of};
-pub use wires::{changing, scripted};
+pub use wires::{Over, Scripted, changing, shown_over};

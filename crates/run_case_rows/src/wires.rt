@@ -108,27 +108,45 @@ fn over_scripts<P: Runs>(
     Ok(outcome)
 }
 
-/// `replies`, `links`, `wire_fails`: the run over a wire whose links do so.
-fn scripted_outcome<P: Runs>(
-    program: &P,
-    alloc: Global,
-    case: &mut Case<'_>,
-    setup: &Setup,
-) -> Result<Box<Outcome>, CaseFault> {
-    let mut wire = wire_of(alloc, case)?;
-    over_scripts(program, alloc, setup, &mut wire)
+/// A kind of wire that rows describe.
+pub trait Over {
+    /// How the run over the wire ends that members of the row describe.
+    fn outcome<P: Runs>(
+        &self,
+        program: &P,
+        alloc: Global,
+        case: &mut Case<'_>,
+        setup: &Setup,
+    ) -> Result<Box<Outcome>, CaseFault>;
 }
 
-/// The members of `run` but `seeds`, and `replies`, `links`, `wire_fails`: the run over a wire whose links do so.
-pub fn scripted<P: Runs>(
+/// The members of `run` but `seeds`, and those that describe the wire: the run over it.
+pub fn shown_over<O: Over, P: Runs>(
+    wire: &O,
     program: &P,
     alloc: Global,
     case: &mut Case<'_>,
 ) -> Result<String, CaseFault> {
     let setup = setup_of(program, alloc, case)?;
     let show = show_of(alloc, case)?;
-    let outcome = scripted_outcome(program, alloc, case, &setup)?;
+    let outcome = wire.outcome(program, alloc, case, &setup)?;
     show.outcome(alloc, &outcome)
+}
+
+/// `replies`, `links`, `wire_fails`: a wire whose links do so.
+pub struct Scripted;
+
+impl Over for Scripted {
+    fn outcome<P: Runs>(
+        &self,
+        program: &P,
+        alloc: Global,
+        case: &mut Case<'_>,
+        setup: &Setup,
+    ) -> Result<Box<Outcome>, CaseFault> {
+        let mut wire = wire_of(alloc, case)?;
+        over_scripts(program, alloc, setup, &mut wire)
+    }
 }
 
 /// The run of a line over a wire of scripts, and over a shelf whose file changes.
