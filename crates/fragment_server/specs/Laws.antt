@@ -214,11 +214,6 @@ fills_as server old new makes answers some = record {
   closing = ap is_ended makes.reading;
 }
 
-pub outcome_as : (server : core.Serving) (outcome : Reloaded) → IsOutcome (serving_of server) outcome → core_outcomes.IsOutcome server.version (outcome_of outcome)
-outcome_as server (outcomes.Version number) is = is
-outcome_as server outcomes.Failed is = tt
-outcome_as server outcomes.OutOfMemory is = tt
-
 pub reloads_as : (server : core.Serving) (outcome : Reloaded) (old new : FragmentConnection) → conversations.Reloads server (outcome_of outcome) old.connection new.connection → Reloads fragments (serving_of server) outcome old new
 reloads_as server (outcomes.Version number) old new r = record {
   pending = r.pending;

@@ -29,9 +29,6 @@ module _ (s : Stored) (quads : List Quad) (ids : IdTriple) (from : ℕ) (old new
   unfolding begun_text
   last_part some last appended = marks_end from (triple_marks (triple_at (held_terms s) ids)) old new (triple_are (triple_at (held_terms s) ids)) some last appended
 
-pub still_begun : (s : Stored) (quads : List Quad) (ids : IdTriple) (from : ℕ) → IsIdTriple (held_terms s) ids → nat_lt PART (length (triple_marks (triple_at (held_terms s) ids)) - from) ≡ true → IsBegun s quads (Triple ids (from + PART))
-still_begun s quads ids from is more = (is, within_on from (length (triple_marks (triple_at (held_terms s) ids))) more)
-
 module _ (s : Stored) (quads : List Quad) (place from : ℕ) (old new : List ℕ) where
   pub line_behind : from < length (canonical_line (slice_index_or quads place some_quad)) → nat_lt PART (length (canonical_line (slice_index_or quads place some_quad)) - from) ≡ true
       → new ≡ old ++ take PART (drop from (canonical_line (slice_index_or quads place some_quad))) → IsGiven (begun_text s quads (Line place from)) (begun_text s quads (Line place (from + PART))) old new
@@ -42,6 +39,3 @@ module _ (s : Stored) (quads : List Quad) (place from : ℕ) (old new : List ℕ
       → new ≡ old ++ take PART (drop from (canonical_line (slice_index_or quads place some_quad))) → IsGiven (begun_text s quads (Line place from)) (begun_text s quads Nothing) old new
   unfolding begun_text
   line_over some last appended = line_ends from (canonical_line (slice_index_or quads place some_quad)) old new some last appended
-
-pub line_still_begun : (s : Stored) (quads : List Quad) (place from : ℕ) → place < length quads → nat_lt PART (length (canonical_line (slice_index_or quads place some_quad)) - from) ≡ true → IsBegun s quads (Line place (from + PART))
-line_still_begun s quads place from is more = (is, within_on from (length (canonical_line (slice_index_or quads place some_quad))) more)

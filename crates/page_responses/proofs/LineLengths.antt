@@ -24,13 +24,6 @@ drop_at [] i d h = absurd (omega arith)
 drop_at (x ∷ xs) zero d h = refl
 drop_at (x ∷ xs) (suc i) d h = drop_at xs i d (omega arith)
 
-pub next_quad : (quads : List Quad) (i : ℕ) (d : Quad) → i < length quads
-    → length (concat (quad_lines (drop i quads))) ≡ length (canonical_line (slice_index_or quads i d)) + length (concat (quad_lines (drop (i + 1) quads)))
-next_quad quads i d h =
-    let e : suc i ≡ i + 1 = omega arith in
-    ap (λ (l : List Quad). length (concat (quad_lines l))) (drop_at quads i d h ∙ ap (λ (n : ℕ). slice_index_or quads i d ∷ drop n quads) e)
-    ∙ length-append (canonical_line (slice_index_or quads i d)) (concat (quad_lines (drop (i + 1) quads)))
-
 pub next_triple : (triples : List Triple) (i : ℕ) (d : Triple) → i < length triples
     → length (concat (triple_lines (drop i triples))) ≡ length (triple_line (slice_index_or triples i d)) + length (concat (triple_lines (drop (i + 1) triples)))
 next_triple triples i d h =

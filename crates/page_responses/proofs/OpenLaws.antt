@@ -163,14 +163,7 @@ module _ (server : Serving) (slots : Slots) (page : ℕ) (table : Stored) (size 
 
 -- ---- restricted by rows
 
-pub restricted_given : {E : Type 0} (server : Serving) (slots : Slots) (rows : List Slots) (page : ℕ) (r : Result Opened E) → IsSelectedNumber server.table slots rows page server.config.page_size
-    → IfOk r (OpensPage server (chosen slots rows) page) → IfOk r (OpensNumber server (chosen slots rows) page)
-restricted_given server slots rows page r number opens = opens_there server (chosen slots rows) page r number.last opens
-
 pub restricted_past : (server : Serving) (slots : Slots) (rows : List Slots) (page : ℕ) (o : Opened) → 1 ≤ page → (IsSelectedNumber server.table slots rows page server.config.page_size → ⊥)
     → o ≡ status_opened NotFound → OpensNumber server (chosen slots rows) page o
 restricted_past server slots rows page o some none opened =
     subst (OpensNumber server (chosen slots rows) page) (sym opened) (past_opened server (chosen slots rows) page (λ h. none (record { first = some; last = h })))
-
-pub without_rows : {E : Type 0} (server : Serving) (slots : Slots) (rows : List Slots) (page : ℕ) (r : Result Opened E) → rows ≡ [] → IfOk r (OpensNumber server (all_of slots) page) → IfOk r (OpensNumber server (chosen slots rows) page)
-without_rows server slots rows page r none opens = subst (λ (l : List Slots). IfOk r (OpensNumber server (chosen slots l) page)) (sym none) opens

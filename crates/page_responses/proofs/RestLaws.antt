@@ -303,9 +303,6 @@ quads_are s triples quads i n t p same size = ap (nat_lt i) size ∙ left_is qua
 
 -- ---- several lines at once
 
-pub more_none : (room : ℕ) (text before : List ℕ) → IsMore room text text before before
-more_none room text before = record { part = []; text = refl; appended = sym (append-nil before); few = omega arith }
-
 -- a part was appended and then another one behind it
 pub more_again : (room left : ℕ) (old mid new before one after : List ℕ) → left ≡ room - (length one - length before) → IsMore room old mid before one → IsMore left mid new one after
     → IsMore room old new before after
@@ -328,15 +325,6 @@ given_more room old mid new before one after is first more =
       some = omega (arith, first.some, length-append first.part more.part);
       few = omega (arith, is, size, first.few, more.few, length-append first.part more.part);
     }
-
--- how many bytes a part has
-pub more_size : (room : ℕ) (old new before after : List ℕ) → IsMore room old new before after → (length before ≤ length after) × (length after - length before ≤ room)
-more_size room old new before after more =
-    let size = ap (λ (l : List ℕ). length l) more.appended ∙ length-append before more.part in
-    (omega (arith, size), omega (arith, size, more.few))
-
-pub given_size : (old new before after : List ℕ) → IsGiven old new before after → (length before ≤ length after) × (length after - length before ≤ LONGEST_PART)
-given_size old new before after given = more_size LONGEST_PART old new before after (record { part = given.part; text = given.text; appended = given.appended; few = given.few })
 
 module _ (s : Stored) (old new : PageTriples) (ids : IdTriple) (first : triples_of s old ≡ triple_at (held_terms s) ids ∷ triples_of s (after_first old)) (is : new ≡ after_first old) where
   first_line_is : lines_text s old ≡ triple_line (triple_at (held_terms s) ids) ++ lines_text s new

@@ -89,22 +89,7 @@ answer_given config rest new waiting later queued before after none is given = r
   few = given.few;
 }
 
-abbrev AllAsked : List Queued → Type 0
-AllAsked waiting = AllByRecursion (λ (queued : Queued). IsAsked queued.asking) waiting
-
-pub first_asked : (rest : Rest) (waiting later : List Queued) (queued : Queued) → waiting ≡ queued ∷ later → Fits rest waiting → IsAsked queued.asking
-first_asked rest waiting later queued is fits = (subst AllAsked is fits.asked).0
-
-pub answer_fits : (rest new : Rest) (waiting later : List Queued) (queued : Queued) → waiting ≡ queued ∷ later → Fits rest waiting → IsWithin new → Fits new later
-answer_fits rest new waiting later queued is fits within = record { range = within; asked = (subst AllAsked is fits.asked).1 }
-
-pub nothing_waits : (rest : Rest) (waiting : List Queued) → is_left rest ≡ false → debt_left rest waiting ≡ true → waiting ≡ [] → ⊥
-nothing_waits rest waiting none left empty = true≢false (sym left ∙ ap₂ (λ (b : Bool) (q : List Queued). b || nat_lt 0 (length q)) none empty)
-
 -- ---- many parts
-
-pub fills_none : (owed : List ℕ) (taken : ℕ) (before : List ℕ) → Fills owed owed taken before before
-fills_none owed taken before = record { part = []; owed = refl; made = sym (append-nil before); few = λ h. h }
 
 pub fills_more : (owed left new : List ℕ) (taken : ℕ) (before made after : List ℕ) → taken ≤ length before → length made - taken < ENOUGH_PENDING → Fills owed left taken before made → IsGiven left new made after → Fills owed new taken before after
 fills_more owed left new taken before made after within few fills given = record {
@@ -113,12 +98,6 @@ fills_more owed left new taken before made after within few fills given = record
   made = given.appended ∙ ap (λ (l : List ℕ). l ++ given.part) fills.made ∙ append_assoc before fills.part given.part;
   few = λ h. omega (arith, few, given.few, ap (λ (l : List ℕ). length l) given.appended, length-append made given.part);
 }
-
-pub made_within : (owed left : List ℕ) (taken : ℕ) (before made : List ℕ) → taken ≤ length before → Fills owed left taken before made → taken ≤ length made
-made_within owed left taken before made within fills = omega (arith, within, ap (λ (l : List ℕ). length l) fills.made, length-append before fills.part)
-
-pub less_owed : (old new before after : List ℕ) → IsGiven old new before after → length new < length old
-less_owed old new before after given = omega (arith, given.some, ap (λ (l : List ℕ). length l) given.text, length-append given.part new)
 
 no_queue : (waiting : List Queued) → nat_lt 0 (length waiting) ≡ false → waiting ≡ []
 no_queue [] h = refl

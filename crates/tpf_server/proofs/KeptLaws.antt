@@ -91,20 +91,12 @@ makes_kept config own unread rest made_rest new before made_waiting after bytes 
     (subst (λ (x : List Queued). Makes own old (conversation unread reading made_rest x (drop given made) starved)) (sym w)
     (makes own unread rest made_rest before made_waiting bytes made given reading starved old same (omega (arith, half)) fed fills enough)))
 
--- at most as many bytes are pending where some were taken
-pub kept_few : (left given : ℕ) (new old : List ℕ) → length new - left ≡ length old - given → length old - given ≤ MOST_PENDING → length new - left ≤ MOST_PENDING
-kept_few left given new old same few = omega (arith, same, few)
-
 pub few_pending : (given : ℕ) (bytes : List ℕ) (pending : List ℕ) → drop given bytes ≡ pending → length bytes - given ≤ MOST_PENDING → length pending ≤ MOST_PENDING
 few_pending given bytes pending is few = omega (arith, few, ap (λ (l : List ℕ). length l) is, length-drop given bytes)
 
 -- as many bytes are left where the same ones are
 pub same_left : (left given : ℕ) (new old : List ℕ) → drop left new ≡ drop given old → length new - left ≡ length old - given
 same_left left given new old same = omega (arith, ap (λ (l : List ℕ). length l) same, length-drop left new, length-drop given old)
-
--- a front of them was kept
-pub cut_few : (given pending : ℕ) (bytes cut : List ℕ) → cut ≡ take (given + pending) bytes → length bytes - given ≤ MOST_PENDING → length cut - given ≤ MOST_PENDING
-cut_few given pending bytes cut is few = omega (arith, few, ap (λ (l : List ℕ). length l) is, length-take (given + pending) bytes)
 
 pub few_taken : (n : ℕ) (old : List ℕ) (new : List ℕ) → new ≡ take n old → length old ≤ MOST_PENDING → length new ≤ MOST_PENDING
 few_taken n old new is few = omega (arith, few, ap (λ (l : List ℕ). length l) is, length-take n old)

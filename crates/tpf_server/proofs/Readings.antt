@@ -39,11 +39,6 @@ status_in d (nexts.Bad status) = status
 status_in d nexts.More = d
 status_in d (nexts.Head h) = d
 
-abbrev IsMore : NextHead → Type 0
-IsMore nexts.More = Unit {0}
-IsMore (nexts.Head h) = ⊥
-IsMore (nexts.Bad status) = ⊥
-
 abbrev IsHead : NextHead → Type 0
 IsHead nexts.More = ⊥
 IsHead (nexts.Head h) = Unit {0}
@@ -59,18 +54,6 @@ open_next held open_ = ap (next_for held.bytes) open_
 
 open_after : (held : Held) → held.refused ≡ None → after_next held ≡ after_answer held (next_request held.bytes)
 open_after held open_ = ap (after_if held) open_
-
-more_is : (next : NextRequest) → nexts.More ≡ shown next → next ≡ Incomplete
-more_is Incomplete is = refl
-more_is (Taken r n) is = absurd (subst IsMore is tt)
-more_is (Refused status) is = absurd (subst IsMore is tt)
-
--- no whole head stands next
-pub none_next : (held : Held) → held.refused ≡ None → nexts.More ≡ shown (next_of held) → next_request held.bytes ≡ Incomplete
-none_next held open_ is = more_is (next_request held.bytes) (is ∙ ap shown (open_next held open_))
-
-pub none_after : (held new : Held) → held.refused ≡ None → nexts.More ≡ shown (next_of held) → new ≡ after_next held → new ≡ held
-none_after held new open_ is after = after ∙ open_after held open_ ∙ ap (after_answer held) (none_next held open_ is)
 
 bad_next : (server : Serving) (held new : Held) (before later : List Queued) (status : ℕ) (next : NextRequest) → next_request held.bytes ≡ next → nexts.Bad status ≡ shown next → later ≡ before ++ refusing_with status ∷ []
     → IsAnswered server held.bytes before later true new
