@@ -9,7 +9,7 @@ use run_case_rows::{
 };
 use std::alloc::Global;
 use template_fill::WebAddress;
-use tpf_base::{Bytes, MemShelf, Text};
+use tpf_base::{Bytes, MemShelf, Text, USUAL_PAGE};
 use triple_table::Choice;
 
 /// What was sent on a wire in one process.
@@ -56,7 +56,7 @@ fn server_of(
     case: &mut Case<'_>,
     setup: &Setup,
 ) -> Result<Box<FragmentServer>, CaseFault> {
-    let page = case.number_if("page")?.unwrap_or(100);
+    let page = case.number_if("page")?.unwrap_or(USUAL_PAGE);
     let rows = case.flag("rows")?;
     let mut shelf = setup.shelf(alloc, Failure::Never)?;
     server_on(alloc, &mut shelf, "http://localhost/data", page, rows)
@@ -122,7 +122,7 @@ fn shelf_with(alloc: Global, bytes: Vec<u8>) -> Result<MemShelf, CaseFault> {
 /// `at`, `data`, `page`: the server of these data at this address.
 fn server_in(alloc: Global, case: &mut Case<'_>) -> Result<Box<FragmentServer>, CaseFault> {
     let base = case.text(alloc, "at")?;
-    let page = case.number_if("page")?.unwrap_or(100);
+    let page = case.number_if("page")?.unwrap_or(USUAL_PAGE);
     let bytes = case.bytes(alloc, "data")?;
     case.end()?;
     let mut shelf = shelf_with(alloc, bytes)?;

@@ -1,7 +1,7 @@
 // How runs end, and what is shown of that.
 use crate::sent::{answers_in, order_in, targets_in};
 use crate::setups::Failure;
-use case_rows::{Case, CaseFault, number_text, word_text};
+use case_rows::{Case, CaseFault, number_text, sorted_result, word_text};
 use std::alloc::Global;
 use std::str;
 use tpf_base::MemSink;
@@ -110,38 +110,6 @@ fn text_of(taken: &[u8]) -> Result<&str, CaseFault> {
     }
 }
 
-/// The rows of a result's text, which has at least one, without the first brace and the last.
-fn rows_in(text: &str) -> Option<(&str, &str)> {
-    let Some((front, rest)) = text.split_once("\"bindings\":[{") else {
-        return None;
-    };
-    match rest.strip_suffix("}]}}\n") {
-        Some(rows) => Some((front, rows)),
-        None => None,
-    }
-}
-
-/// Rows in the order of their bytes.
-fn sorted_rows(alloc: Global, rows: &str) -> Result<String, CaseFault> {
-    let mut parts: Vec<&str> = rows.split("},{").collect(alloc)?;
-    parts.sort_unstable();
-    Ok(parts.as_slice().join(alloc, "},{")?)
-}
-
-/// The text of a result with these rows.
-fn with_rows(alloc: Global, front: &str, rows: &str) -> Result<String, CaseFault> {
-    Ok(format!(in alloc; "{front}\"bindings\":[{{{rows}}}]}}}}\n")?)
-}
-
-/// The text of a result with its rows in the order of their bytes.
-fn sorted(alloc: Global, text: &str) -> Result<String, CaseFault> {
-    let Some((front, rows)) = rows_in(text) else {
-        return word_text(alloc, text);
-    };
-    let rows = sorted_rows(alloc, rows)?;
-    with_rows(alloc, front, rows.as_str())
-}
-
 /// How often a text stands in another.
 fn times(text: &str, part: &str) -> usize {
     text.split(part).count().saturating_sub(1)
@@ -166,7 +134,7 @@ impl Show {
             return number_text(alloc, times(text, part.as_str()) as u64);
         }
         if self.is_sorted {
-            return sorted(alloc, text);
+            return sorted_result(alloc, text);
         }
         word_text(alloc, text)
     }
