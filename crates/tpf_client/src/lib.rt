@@ -1,15 +1,13 @@
 //! A query over a wire: the pages of a server are asked for, joined, and written as the text of a result or gathered in a list.
 //!
 //! A query, the address of any fragment of the server, a wire to dial it and a sink for the text of the
-//! result; `query_of` parses the text of a query:
+//! result; `parse` of `pattern_parser` reads the text of a query:
 //!
 //! ```rust
-//! let asked = query_of(alloc, text)?;
+//! let asked = parse(alloc, text.as_bytes())?;
 //! let start = WebAddress::read(alloc, base)?;
 //! let mut out = MemSink::new(alloc, fails);
 //! let ended = query(rt, alloc, &asked, &start, options, wire, &mut out);
-//! let told = told(alloc, &ended)?;
-//! let text = String::from_str(alloc, str::from_utf8(out.taken())?)?;
 //! ```
 #![tactic(auto)]
 
