@@ -4,6 +4,7 @@ ghost use Rattle.std.specs.Prelude.{◌≡◌, ◌≤◌};
 use crate::run::{NEWEST, OLDEST, Order, Seen, Setting, Way, finished, outs, same, sorted};
 use std::alloc::Global;
 use std::test::Fail;
+use test_servers::chains;
 
 const KNOWS: &str =
     "<http://e/a> <http://e/k> <http://e/b> .\n<http://e/a> <http://e/k> <http://e/c> .\n<http://e/b> <http://e/k> <http://e/c> .\n<http://e/c> <http://e/n> \"C\" .\n";
@@ -164,37 +165,6 @@ fn answers_in_every_order_of_four_give_the_same_rows(rt: HostRuntime) -> Result<
         same(rows_in_order(rt.alloc(), order)?, FOUR_ROWS)?;
     }
     Ok(())
-}
-
-/// Adds a chain of three triples from one subject.
-fn add_chain(alloc: Global, number: u32, text: &mut String) -> Result<(), Fail> {
-    let number = number.to_string(alloc)?;
-    let n = number.as_str();
-    for part in [
-        "<http://e/a> <http://e/p> <http://e/b",
-        n,
-        "> .\n<http://e/b",
-        n,
-        "> <http://e/q> <http://e/c",
-        n,
-        "> .\n<http://e/c",
-        n,
-        "> <http://e/r> <http://e/d",
-        n,
-        "> .\n",
-    ] {
-        text.push_str(part)?;
-    }
-    Ok(())
-}
-
-/// Chains of three triples from one subject.
-fn chains(alloc: Global, count: u32) -> Result<String, Fail> {
-    let mut text = String::new(alloc);
-    for number in 0..count {
-        add_chain(alloc, number.saturating_add(1), &mut text)?;
-    }
-    Ok(text)
 }
 
 /// The number of the first ask whose address has a text.

@@ -1,60 +1,11 @@
 // The pages that a server in memory gives.
-ghost use Rattle.std.specs.Prelude.{All, IfOk};
-ghost use Rattle.rdf_terms.specs.Triples.{IsRdfQuad};
-ghost use Rattle.tpf_base.specs.Addresses.{IsAuthority};
-
-use bgp_core::Query;
 use control_reader::{Page, read_page};
 use http_wire::{ReplyFeed, write_request};
-use hydra_controls::Config;
-use nquads_text::read_all;
-use pattern_parser::parse;
-use rdf_terms::Quad;
 use std::alloc::Global;
 use std::test::Fail;
 use template_fill::WebAddress;
 use tpf_base::{Bytes, OutOfMemory};
 use tpf_server::{Connection, Server};
-use triple_table::{Choice, Table};
-
-pub const BASE: &str = "http://localhost/data";
-
-fn host() -> &'static str
-    ensures { IsAuthority result.now }
-{
-    "localhost"
-}
-
-pub fn quads_of(alloc: Global, text: &str) -> Result<Vec<Quad>, Fail>
-    ensures { IfOk result (λ v. All IsRdfQuad v.items) }
-{
-    match read_all(alloc, text.as_bytes(), 1000) {
-        Ok(quads) => Ok(quads),
-        Err(_) => Err(Fail::new("no data")),
-    }
-}
-
-fn table_of(alloc: Global, text: &str) -> Result<Table, Fail> {
-    let quads = quads_of(alloc, text)?;
-    match Table::build(alloc, quads.as_slice(), &Choice::Union, host(), 100000) {
-        Ok(table) => Ok(table),
-        Err(_) => Err(Fail::new("no table")),
-    }
-}
-
-fn config_of(alloc: Global, page_size: u64) -> Result<Config, Fail> {
-    let base = WebAddress::read(alloc, BASE)?;
-    match Config::new(base, page_size) {
-        Some(config) => Ok(config),
-        None => Err(Fail::new("no configuration")),
-    }
-}
-
-pub fn server_of(alloc: Global, text: &str, page_size: u64) -> Result<Server, Fail> {
-    let config = config_of(alloc, page_size)?;
-    let table = table_of(alloc, text)?;
-    Ok(Server::new(alloc, table, config)?)
-}
 
 /// Adds the bytes that are pending, and takes them.
 fn drain(
@@ -128,12 +79,5 @@ pub fn page_at(alloc: Global, server: &Server, address: &WebAddress) -> Result<P
     match read_page(alloc, body.as_slice(), address) {
         Ok(page) => Ok(page),
         Err(_) => Err(Fail::new("no page")),
-    }
-}
-
-pub fn query_of(alloc: Global, text: &str) -> Result<Query, Fail> {
-    match parse(alloc, text.as_bytes()) {
-        Ok(query) => Ok(query),
-        Err(_) => Err(Fail::new("no query")),
     }
 }

@@ -1,15 +1,16 @@
 // Joins of random queries over random data, beside their solutions and what is to be asked by definition.
 ghost use Rattle.std.specs.Prelude.{◌≤◌, ◌<◌};
 
-use crate::pages::{quads_of, query_of};
 use crate::plan::{Data, Fact, Pattern, Place, note_plan, text_of};
 use crate::run::{Order, Seen, Setting, finished, line, same, sorted};
 use bgp_core::{Row, solutions};
+use pattern_parser::parse;
 use rand_core::utils::NextWord;
 use rand_pcg::Pcg32;
 use rdf_terms::Triple;
 use std::alloc::Global;
 use std::test::Fail;
+use test_servers::quads_of;
 
 /// A number below `most`.
 fn below(generator: &mut Pcg32, most: u32) -> usize
@@ -114,7 +115,7 @@ fn triples_of(alloc: Global, data: &str) -> Result<Vec<Triple>, Fail> {
 
 fn rows_of(alloc: Global, data: &str, query: &str) -> Result<Vec<Row>, Fail> {
     let triples = triples_of(alloc, data)?;
-    let query = query_of(alloc, query)?;
+    let query = parse(alloc, query.as_bytes())?;
     Ok(solutions(alloc, triples.as_slice(), &query)?)
 }
 

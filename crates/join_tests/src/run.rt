@@ -1,14 +1,16 @@
 // A join on its way: what it asks for is answered with the pages of a server.
 ghost use Rattle.std.specs.Prelude.{◌≡◌, ◌<◌, ◌+◌, ◌*◌, ◌≤◌, ◌^◌, ◌-◌, IfOk, OnOk};
 
-use crate::pages::{BASE, page_at, query_of, server_of};
+use crate::pages::page_at;
 use bgp_core::Row;
 use join_core::Join;
 use nquads_text::canonical;
+use pattern_parser::parse;
 use request_plan::{Answered, Ask, FormList};
 use std::alloc::Global;
 use std::test::Fail;
 use template_fill::{Form, WebAddress};
+use test_servers::{BASE, server_of};
 use tpf_server::Server;
 
 /// In which order asks are answered. The numbers are places among the asks that are out, the oldest of
@@ -289,7 +291,7 @@ fn join_over(alloc: Global, server: &Server, query: &str, window: u32) -> Result
     requires { 1 ≤ window }
     ensures { IfOk result (λ join. join.tickets ≡ 0) }
 {
-    let query = query_of(alloc, query)?;
+    let query = parse(alloc, query.as_bytes())?;
     let forms = FormList::one(alloc, form_of(alloc, server)?);
     Ok(Join::new(alloc, &query, forms, window)?)
 }

@@ -1,24 +1,11 @@
 // Servers of fragments.
-ghost use Rattle.std.specs.Prelude.{All, IfOk};
-ghost use Rattle.rdf_terms.specs.Triples.{IsRdfQuad};
-ghost use Rattle.tpf_base.specs.Addresses.{IsAuthority};
-
 use fragment_server::FragmentServer;
-use hydra_controls::Config;
-use nquads_text::read_all;
-use rdf_terms::Quad;
 use std::alloc::Global;
 use std::test::Fail;
-use template_fill::WebAddress;
+use test_servers::{BASE, config_at, table_of};
 use tpf_base::Text;
 use tpf_server::Server;
-use triple_table::{Choice, Table};
-
-fn host() -> &'static str
-    ensures { IsAuthority result.now }
-{
-    "localhost"
-}
+use triple_table::Table;
 
 /// A statement for each of so many subjects, one a line.
 fn data_of(alloc: Global, subjects: u32) -> Result<String, Fail> {
@@ -32,42 +19,24 @@ fn data_of(alloc: Global, subjects: u32) -> Result<String, Fail> {
     Ok(text)
 }
 
-fn quads_of(alloc: Global, text: &str) -> Result<Vec<Quad>, Fail>
-    ensures { IfOk result (λ v. All IsRdfQuad v.items) }
-{
-    match read_all(alloc, text.as_bytes(), 10000) {
-        Ok(quads) => Ok(quads),
-        Err(_) => Err(Fail::new("no data")),
-    }
-}
-
 /// A table of so many triples.
-pub fn table_of(alloc: Global, subjects: u32) -> Result<Table, Fail> {
+pub fn table_with(alloc: Global, subjects: u32) -> Result<Table, Fail> {
     let text = data_of(alloc, subjects)?;
-    let quads = quads_of(alloc, text.as_str())?;
-    Ok(Table::build(alloc, quads.as_slice(), &Choice::Union, host(), 100000)?)
-}
-
-fn config_of(alloc: Global, page_size: u64) -> Result<Config, Fail> {
-    let base = WebAddress::read(alloc, "http://localhost/data")?;
-    match Config::new(base, page_size) {
-        Some(config) => Ok(config),
-        None => Err(Fail::new("no configuration")),
-    }
+    Ok(table_of(alloc, text.as_str())?)
 }
 
 /// A server of so many triples, so many a page.
 pub fn server_of(alloc: Global, subjects: u32, page_size: u64) -> Result<FragmentServer, Fail> {
-    let table = table_of(alloc, subjects)?;
-    let config = config_of(alloc, page_size)?;
-    Ok(FragmentServer::new(Server::new(alloc, table, config)?))
+    let text = data_of(alloc, subjects)?;
+    let server = test_servers::server_of(alloc, text.as_str(), page_size)?;
+    Ok(FragmentServer::new(server))
 }
 
 /// The same, whose data are read again at a request for `/reload`.
 pub fn reloading(alloc: Global, subjects: u32, page_size: u64) -> Result<FragmentServer, Fail> {
-    let table = table_of(alloc, subjects)?;
+    let table = table_with(alloc, subjects)?;
     let path = Text::copy(alloc, "/reload")?;
-    match config_of(alloc, page_size)?.with_reload(path) {
+    match config_at(alloc, BASE, page_size)?.with_reload(path) {
         Some(config) => Ok(FragmentServer::new(Server::new(alloc, table, config)?)),
         None => Err(Fail::new("no configuration")),
     }

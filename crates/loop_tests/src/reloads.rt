@@ -1,5 +1,5 @@
 // Data that are read again while links are served.
-use crate::fragments::{reloading, table_of, triples_in};
+use crate::fragments::{reloading, table_with, triples_in};
 use crate::links::{Link, ending, sent, wire_of};
 use connections::MemSupply;
 use fragment_server::FragmentConnection;
@@ -23,7 +23,7 @@ const FAILED: &str = "HTTP/1.1 500 Internal Server Error\r\n";
 /// A supply that has a table of two triples, once.
 fn supply(alloc: Global) -> Result<MemSupply<Table>, Fail> {
     let mut tables = Vec::new(alloc);
-    tables.push(table_of(alloc, 2)?)?;
+    tables.push(table_with(alloc, 2)?)?;
     Ok(MemSupply::new(tables, Failing::Never))
 }
 
