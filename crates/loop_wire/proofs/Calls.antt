@@ -2,16 +2,16 @@
 use Rattle.std.proofs.Common.{ℕ, zero, suc, ◌≡◌, ◌≢◌, ◌<◌, ◌≤◌, ◌+◌, ◌++◌, ◌||◌, Bool, true, false, List, [], ◌∷◌, length, take, set, get_or, Option, Some, refl, ap, sym, subst, ◌∙◌, length-set, length-append, arith}
 use Rattle.std.proofs.lemmas.List.{get_or-set_same, get_or-set_other, set-get_or, append-nil, length-take-le}
 use Rattle.std.proofs.Math.Seq.{get_or-append_seam}
-use Rattle.tpf_base.specs.Causes.{counted}
+use Rattle.tpf_base.specs.Causes.{Rose, counted}
 use Rattle.tpf_base.specs.Failures.{CallCounts, is_due, is_dial_due, is_nth}
 use Rattle.tpf_base.specs.Links.{Sending, Receiving, All, Link, is_short, WireState}
-use Rattle.tpf_base.specs.Calls.{OnlyOn, SameWire, Sends, Receives, Closes, Gives}
+use Rattle.tpf_base.specs.Calls.{OnlyOn, SameWire, Sends, Receives, Closes, Gives, stalled_by}
 use Rattle.tpf_base.specs.declared.failing.Failing.{Failing}
 use Rattle.tpf_base.specs.declared.failing.Failing.TheVariants.{Never, Every, At, AfterBytes, Dials}
 use Rattle.tpf_base.specs.declared.wire.Moved.{Moved}
 use Rattle.tpf_base.specs.declared.wire.Moved.TheVariants as answers
 use Rattle.loop_wire.specs.Held as held
-use Rattle.loop_wire.specs.Held.{Held, Owing, no_link, new_link, told_there, settled, stalled_at, sent_more, received_more, ended_now, closed, IsHeld, Hears}
+use Rattle.loop_wire.specs.Held.{Held, Owing, no_link, new_link, told_there, settled, closed, after_send, after_receive, IsHeld, Hears}
 use Rattle.loop_wire.specs.Waits.{WaitCounts}
 use Rattle.loop_wire.specs.Looped.{wire_of, nature_in, steady_in, every_in, is_steady, every_of, woke_after}
 use Rattle.loop_wire.proofs.Talks.{front_lasts}
@@ -91,205 +91,106 @@ turns_set everywhere owes k links h' counts counts' provoked waits woke woke' be
   tells = refl;
 }
 
+-- The idle waits and the faults of a wire after a call with this answer, which alone fails or wants memory.
+record CountsBy (answer : Moved) (old new : WireState) : Type 0 where
+  moved : (n : ℕ) → answer ≡ answers.Moved n → new.idle ≡ 0
+  end_ : answer ≡ answers.End → new.idle ≡ 0
+  not_yet : answer ≡ answers.NotYet → new.idle ≡ old.idle
+  failed : answer ≡ answers.Failed → (new.idle ≡ old.idle) × Rose old.faults new.faults
+  memory : answer ≡ answers.OutOfMemory → SameWire old new
+  unfailed : answer ≢ answers.Failed → new.faults ≡ old.faults
+  not_due : old.nature.steady ≡ true → answer ≢ answers.Failed
+
 -- ---- sends
 
-sent_bytes : (owes : Owing) (k n : ℕ) (piece rest : List ℕ) (h h' : Held) (old new : WireState)
-    → Turns owes k h h' old new → h' ≡ sent_more (take n piece) h → owes h.peer (h.sent ++ take n piece) ≡ owes h.peer h.sent ++ rest → h.received ≤ length (owes h.peer h.sent)
-    → new.idle ≡ 0 → new.faults ≡ old.faults → 0 < n → n ≤ length piece → Sends k piece old new (answers.Moved n)
-sent_bytes owes k n piece rest h h' old new turn left longer within idle faults some few = record {
-  only = turn.only;
-  peer = rw (turn.is, turn.was, left) refl;
-  received = rw (turn.is, turn.was, left) (ap Some (front_lasts h.received (owes h.peer h.sent) (owes h.peer (h.sent ++ take n piece)) rest within longer));
-  ended = rw (turn.is, turn.was, left) refl;
-  is_open = rw (turn.is, turn.was, left) refl;
-  stalls = rw (turn.is, turn.was, left) (omega arith);
-  stalled = λ fine. rw (turn.is, left) (refl, refl);
-  moved = λ j same. let e : n ≡ j = cc in rw (← e, turn.is, turn.was, left, idle) (some, few, refl, refl);
-  not_yet = λ same. absurd cc;
-  failed = λ same. absurd cc;
-  memory = λ same. absurd cc;
-  no_end = λ same. absurd cc;
-  unfailed = λ able. faults;
-  not_due = λ steady e every. (faults, λ same. absurd cc);
-  woken = λ steady woken stalled same. absurd cc;
-}
+-- what a send leaves of its link, whatever it answers
+record SentOn (owes : Owing) (answer : Moved) (h h' : Held) : Type 0 where
+  peer : h'.peer ≡ h.peer
+  received : take h'.received (owes h'.peer h'.sent) ≡ take h.received (owes h.peer h.sent)
+  ended : h'.ended ≡ h.ended
+  is_open : h'.is_open ≡ h.is_open
+  stalled : answer ≢ answers.OutOfMemory → (h'.stalled ≡ stalled_by Sending answer) × (h'.woken ≡ false)
 
-sent_nothing : (owes : Owing) (k : ℕ) (piece : List ℕ) (h h' : Held) (old new : WireState)
-    → Turns owes k h h' old new → h' ≡ stalled_at Sending true h → h.woken ≡ false → h.stalls ≤ h'.stalls → new.idle ≡ old.idle → new.faults ≡ old.faults
-    → Sends k piece old new answers.NotYet
-sent_nothing owes k piece h h' old new turn left asleep later idle faults =
-    let later' : h.stalls ≤ counted h.stalls = let P : Held → Type 0 = λ x. h.stalls ≤ x.stalls in subst P left later in
+sent_on : (owes : Owing) (answer : Moved) (front : List ℕ) (h : Held) → answer ≢ answers.End
+    → ((n : ℕ) → answer ≡ answers.Moved n → take h.received (owes h.peer (h.sent ++ front)) ≡ take h.received (owes h.peer h.sent)) → SentOn owes answer h (after_send answer front h)
+sent_on owes (answers.Moved n) front h no_end lasts = record { peer = refl; received = lasts n refl; ended = refl; is_open = refl; stalled = λ able. (refl, refl) }
+sent_on owes answers.End front h no_end lasts = absurd (no_end refl)
+sent_on owes answers.NotYet front h no_end lasts = record { peer = refl; received = refl; ended = refl; is_open = refl; stalled = λ able. (refl, refl) }
+sent_on owes answers.Failed front h no_end lasts = record { peer = refl; received = refl; ended = refl; is_open = refl; stalled = λ able. (refl, refl) }
+sent_on owes answers.OutOfMemory front h no_end lasts = record { peer = refl; received = refl; ended = refl; is_open = refl; stalled = λ able. absurd (able refl) }
+
+-- these bytes are the front of the piece that moved, and what was received stays the front of what is owed
+record IsFront (owes : Owing) (piece front : List ℕ) (h : Held) (n : ℕ) : Type 0 where
+  some : 0 < n
+  few : n ≤ length piece
+  is : front ≡ take n piece
+  lasts : take h.received (owes h.peer (h.sent ++ front)) ≡ take h.received (owes h.peer h.sent)
+
+sends_by : (owes : Owing) (k : ℕ) (piece front : List ℕ) (answer : Moved) (h h' : Held) (old new : WireState)
+    → Turns owes k h h' old new → h' ≡ after_send answer front h → h.stalls ≤ h'.stalls → CountsBy answer old new → answer ≢ answers.End
+    → ((n : ℕ) → answer ≡ answers.Moved n → IsFront owes piece front h n) → (answer ≡ answers.NotYet → h.woken ≡ false) → Sends k piece old new answer
+sends_by owes k piece front answer h h' old new turn left later counts no_end moves asleep =
+    let on = sent_on owes answer front h no_end (λ n same. (moves n same).lasts) in
     record {
       only = turn.only;
-      peer = rw (turn.is, turn.was, left) refl;
-      received = rw (turn.is, turn.was, left) refl;
-      ended = rw (turn.is, turn.was, left) refl;
-      is_open = rw (turn.is, turn.was, left) refl;
-      stalls = rw (turn.is, turn.was, left) later';
-      stalled = λ fine. rw (turn.is, left) (refl, refl);
-      moved = λ j same. absurd cc;
-      not_yet = λ same. rw (turn.is, turn.was, left, idle) (refl, refl, omega arith, refl);
-      failed = λ same. absurd cc;
-      memory = λ same. absurd cc;
-      no_end = λ same. absurd cc;
-      unfailed = λ able. faults;
-      not_due = λ steady e every. (faults, λ same. absurd cc);
-      woken = λ steady woken stalled same. let no : h.woken ≡ true = ap (λ (l : Link). l.woken) (sym turn.was) ∙ woken in absurd cc;
+      peer = rw (turn.is, turn.was, left) on.peer;
+      received = rw (turn.is, turn.was, left) (ap Some on.received);
+      ended = rw (turn.is, turn.was, left) (ap Some on.ended);
+      is_open = rw (turn.is, turn.was, left) on.is_open;
+      stalls = rw (turn.is, turn.was) later;
+      stalled = λ able. rw (turn.is, left) (on.stalled able);
+      moved = λ n same. let f = moves n same in rw (turn.is, turn.was, left, same) (f.some, f.few, ap (λ (bytes : List ℕ). Some (h.sent ++ bytes)) f.is, counts.moved n same);
+      not_yet = λ same. rw (turn.is, turn.was, left, same) (refl, refl, omega arith, counts.not_yet same);
+      failed = λ same. rw (turn.is, turn.was, left, same) (0, omega arith, ap Some (sym (append-nil h.sent)), (λ n. refl), (counts.failed same).0, (counts.failed same).1);
+      memory = counts.memory;
+      no_end = no_end;
+      unfailed = counts.unfailed;
+      not_due = λ steady e every. (counts.unfailed (counts.not_due steady), counts.not_due steady);
+      woken = λ steady woken stalled same. let up : h.woken ≡ true = ap (λ (l : Link). l.woken) (sym turn.was) ∙ woken in let down : h.woken ≡ false = asleep same in absurd cc;
     }
-
-sent_wanting : (owes : Owing) (k : ℕ) (piece : List ℕ) (h h' : Held) (old new : WireState)
-    → Turns owes k h h' old new → h' ≡ h → SameWire old new → Sends k piece old new answers.OutOfMemory
-sent_wanting owes k piece h h' old new turn left same = record {
-  only = turn.only;
-  peer = rw (turn.is, turn.was, left) refl;
-  received = rw (turn.is, turn.was, left) refl;
-  ended = rw (turn.is, turn.was, left) refl;
-  is_open = rw (turn.is, turn.was, left) refl;
-  stalls = rw (turn.is, turn.was, left) (omega arith);
-  stalled = λ fine. absurd (fine refl);
-  moved = λ j e. absurd cc;
-  not_yet = λ e. absurd cc;
-  failed = λ e. absurd cc;
-  memory = λ e. same;
-  no_end = λ e. absurd cc;
-  unfailed = λ able. same.faults;
-  not_due = λ steady e every. (same.faults, λ f. absurd cc);
-  woken = λ steady woken stalled f. absurd cc;
-}
-
-sent_failed : (owes : Owing) (k : ℕ) (piece : List ℕ) (h h' : Held) (old new : WireState)
-    → Turns owes k h h' old new → h' ≡ settled h → new.idle ≡ old.idle → new.faults ≡ counted old.faults → old.nature.steady ≡ false → Sends k piece old new answers.Failed
-sent_failed owes k piece h h' old new turn left idle faults unsteady = record {
-  only = turn.only;
-  peer = rw (turn.is, turn.was, left) refl;
-  received = rw (turn.is, turn.was, left) refl;
-  ended = rw (turn.is, turn.was, left) refl;
-  is_open = rw (turn.is, turn.was, left) refl;
-  stalls = rw (turn.is, turn.was, left) (omega arith);
-  stalled = λ fine. rw (turn.is, left) (refl, refl);
-  moved = λ j e. absurd cc;
-  not_yet = λ e. absurd cc;
-  failed = λ e. rw (turn.is, turn.was, left, idle, faults) (0, omega arith, ap Some (sym (append-nil h.sent)), (λ n. refl), refl, omega arith);
-  memory = λ e. absurd cc;
-  no_end = λ e. absurd cc;
-  unfailed = λ able. absurd (able refl);
-  not_due = λ steady e every. absurd cc;
-  woken = λ steady woken stalled e. absurd cc;
-}
 
 -- ---- receives
 
-heard_bytes : (owes : Owing) (k n : ℕ) (to : List ℕ) (h h' : Held) (old new : WireState)
-    → Turns owes k h h' old new → h' ≡ received_more n h → take (h.received + n) (owes h.peer h.sent) ≡ take h.received (owes h.peer h.sent) ++ take n to
-    → new.idle ≡ 0 → new.faults ≡ old.faults → 0 < n → n ≤ length to → Receives k to old new (answers.Moved n)
-heard_bytes owes k n to h h' old new turn left front idle faults some room = record {
-  only = turn.only;
-  peer = rw (turn.is, turn.was, left) refl;
-  sent = rw (turn.is, turn.was, left) refl;
-  owed = rw (turn.is, turn.was, left) refl;
-  is_open = rw (turn.is, turn.was, left) refl;
-  stalls = rw (turn.is, turn.was, left) (omega arith);
-  stalled = λ fine. rw (turn.is, left) (refl, refl);
-  moved = λ j same. let e : n ≡ j = cc in rw (← e, turn.is, turn.was, left, idle) (some, room, ap Some front, refl, refl);
-  end_ = λ same. absurd cc;
-  not_yet = λ same. absurd cc;
-  failed = λ same. absurd cc;
-  memory = λ same. absurd cc;
-  unfailed = λ able full. faults;
-  not_due = λ steady e every. (faults, (λ same. absurd cc), λ same. absurd cc);
-  woken = λ steady woken stalled same. absurd cc;
-}
+-- what a receive leaves of its link, whatever it answers
+record HeardOn (owes : Owing) (answer : Moved) (h h' : Held) : Type 0 where
+  peer : h'.peer ≡ h.peer
+  sent : h'.sent ≡ h.sent
+  owed : owes h'.peer h'.sent ≡ owes h.peer h.sent
+  is_open : h'.is_open ≡ h.is_open
+  stalled : answer ≢ answers.OutOfMemory → (h'.stalled ≡ stalled_by Receiving answer) × (h'.woken ≡ false)
 
-heard_end : (owes : Owing) (k : ℕ) (to : List ℕ) (h h' : Held) (old new : WireState)
-    → Turns owes k h h' old new → h' ≡ ended_now h → is_short (told_there owes h) ≡ false → new.idle ≡ 0 → new.faults ≡ old.faults → Receives k to old new answers.End
-heard_end owes k to h h' old new turn left over idle faults =
-    let all : is_short (old.links k) ≡ false = ap is_short turn.was ∙ over in
+heard_on : (owes : Owing) (answer : Moved) (short : Bool) (h : Held) → HeardOn owes answer h (after_receive answer short h)
+heard_on owes (answers.Moved n) short h = record { peer = refl; sent = refl; owed = refl; is_open = refl; stalled = λ able. (refl, refl) }
+heard_on owes answers.End short h = record { peer = refl; sent = refl; owed = refl; is_open = refl; stalled = λ able. (refl, refl) }
+heard_on owes answers.NotYet short h = record { peer = refl; sent = refl; owed = refl; is_open = refl; stalled = λ able. (refl, refl) }
+heard_on owes answers.Failed short h = record { peer = refl; sent = refl; owed = refl; is_open = refl; stalled = λ able. (refl, refl) }
+heard_on owes answers.OutOfMemory short h = record { peer = refl; sent = refl; owed = refl; is_open = refl; stalled = λ able. absurd (able refl) }
+
+receives_by : (owes : Owing) (k : ℕ) (to : List ℕ) (answer : Moved) (h h' : Held) (old new : WireState)
+    → Turns owes k h h' old new → h' ≡ after_receive answer (is_short (told_there owes h)) h → h.stalls ≤ h'.stalls → CountsBy answer old new
+    → ((n : ℕ) → answer ≡ answers.Moved n → (0 < n) × (n ≤ length to) × (take (h.received + n) (owes h.peer h.sent) ≡ take h.received (owes h.peer h.sent) ++ take n to))
+    → (answer ≡ answers.End → is_short (told_there owes h) ≡ false) → (answer ≡ answers.NotYet → h.woken ≡ true → h.stalled ≡ Some Receiving → ⊥) → Receives k to old new answer
+receives_by owes k to answer h h' old new turn left later counts moves over ripe =
+    let on = heard_on owes answer (is_short (told_there owes h)) h in
     record {
       only = turn.only;
-      peer = rw (turn.is, turn.was, left) refl;
-      sent = rw (turn.is, turn.was, left) refl;
-      owed = rw (turn.is, turn.was, left) refl;
-      is_open = rw (turn.is, turn.was, left) refl;
-      stalls = rw (turn.is, turn.was, left) (omega arith);
-      stalled = λ fine. rw (turn.is, left) (refl, refl);
-      moved = λ j same. absurd cc;
-      end_ = λ same. (ap (λ (l : Link). l.received) turn.is ∙ rw (left) (sym (ap (λ (l : Link). l.received) turn.was)), ap (λ (l : Link). l.ended) turn.is ∙ rw (left, turn.tells) refl, idle, λ short. absurd cc);
-      not_yet = λ same. absurd cc;
-      failed = λ same. absurd cc;
-      memory = λ same. absurd cc;
-      unfailed = λ able full. faults;
-      not_due = λ steady e every. (faults, (λ same. absurd cc), λ same. all);
-      woken = λ steady woken stalled same. absurd cc;
+      peer = rw (turn.is, turn.was, left) on.peer;
+      sent = rw (turn.is, turn.was, left) (ap Some on.sent);
+      owed = rw (turn.is, turn.was, left) (ap Some on.owed);
+      is_open = rw (turn.is, turn.was, left) on.is_open;
+      stalls = rw (turn.is, turn.was) later;
+      stalled = λ able. rw (turn.is, left) (on.stalled able);
+      moved = λ n same. let m = moves n same in rw (turn.is, turn.was, left, same) (m.0, m.1, ap Some m.2, refl, counts.moved n same);
+      end_ = λ same.
+          let all : is_short (old.links k) ≡ false = ap is_short turn.was ∙ over same in
+          (ap (λ (l : Link). l.received) turn.is ∙ rw (left, same) (sym (ap (λ (l : Link). l.received) turn.was)), ap (λ (l : Link). l.ended) turn.is ∙ rw (left, same, turn.tells) refl, counts.end_ same, λ short. absurd cc);
+      not_yet = λ same. rw (turn.is, turn.was, left, same) (refl, refl, omega arith, counts.not_yet same);
+      failed = λ same. rw (turn.is, turn.was, left, same) (refl, refl, (counts.failed same).0, (counts.failed same).1);
+      memory = counts.memory;
+      unfailed = λ able full. counts.unfailed able;
+      not_due = λ steady e every. (counts.unfailed (counts.not_due steady), counts.not_due steady, λ same. ap is_short turn.was ∙ over same);
+      woken = λ steady woken stalled same. ripe same (ap (λ (l : Link). l.woken) (sym turn.was) ∙ woken) (ap (λ (l : Link). l.stalled) (sym turn.was) ∙ stalled);
     }
-
-heard_nothing : (owes : Owing) (k : ℕ) (to : List ℕ) (stalls : Bool) (h h' : Held) (old new : WireState)
-    → Turns owes k h h' old new → h' ≡ stalled_at Receiving (is_short (told_there owes h)) h → h.stalls ≤ h'.stalls → (stalls ≡ false → is_short (told_there owes h) ≡ false)
-    → (h.woken ≡ true → h.stalled ≡ Some Receiving → (stalls ≡ false) × (is_short (told_there owes h) ≡ true)) → new.idle ≡ old.idle → new.faults ≡ old.faults → Receives k to old new answers.NotYet
-heard_nothing owes k to stalls h h' old new turn left later quiet awake idle faults =
-    let later' : h.stalls ≤ counted h.stalls = let P : Held → Type 0 = λ x. h.stalls ≤ x.stalls in subst P left later in
-    record {
-      only = turn.only;
-      peer = rw (turn.is, turn.was, left) refl;
-      sent = rw (turn.is, turn.was, left) refl;
-      owed = rw (turn.is, turn.was, left) refl;
-      is_open = rw (turn.is, turn.was, left) refl;
-      stalls = rw (turn.is, turn.was, left) later';
-      stalled = λ fine. rw (turn.is, left) (refl, refl);
-      moved = λ j same. absurd cc;
-      end_ = λ same. absurd cc;
-      not_yet = λ same. rw (turn.is, turn.was, left, idle) (refl, refl, omega arith, refl);
-      failed = λ same. absurd cc;
-      memory = λ same. absurd cc;
-      unfailed = λ able full. faults;
-      not_due = λ steady e every. (faults, (λ same. absurd cc), λ same. absurd cc);
-      woken = λ steady woken stalled same.
-          let up : h.woken ≡ true = ap (λ (l : Link). l.woken) (sym turn.was) ∙ woken in
-          let way : h.stalled ≡ Some Receiving = ap (λ (l : Link). l.stalled) (sym turn.was) ∙ stalled in
-          let both = awake up way in
-          let no : is_short (told_there owes h) ≡ false = quiet both.0 in
-          let yes : is_short (told_there owes h) ≡ true = both.1 in
-          absurd cc;
-    }
-
-heard_wanting : (owes : Owing) (k : ℕ) (to : List ℕ) (h h' : Held) (old new : WireState)
-    → Turns owes k h h' old new → h' ≡ h → SameWire old new → Receives k to old new answers.OutOfMemory
-heard_wanting owes k to h h' old new turn left same = record {
-  only = turn.only;
-  peer = rw (turn.is, turn.was, left) refl;
-  sent = rw (turn.is, turn.was, left) refl;
-  owed = rw (turn.is, turn.was, left) refl;
-  is_open = rw (turn.is, turn.was, left) refl;
-  stalls = rw (turn.is, turn.was, left) (omega arith);
-  stalled = λ fine. absurd (fine refl);
-  moved = λ j e. absurd cc;
-  end_ = λ e. absurd cc;
-  not_yet = λ e. absurd cc;
-  failed = λ e. absurd cc;
-  memory = λ e. same;
-  unfailed = λ able full. same.faults;
-  not_due = λ steady e every. (same.faults, (λ f. absurd cc), λ f. absurd cc);
-  woken = λ steady woken stalled f. absurd cc;
-}
-
-heard_failed : (owes : Owing) (k : ℕ) (to : List ℕ) (h h' : Held) (old new : WireState)
-    → Turns owes k h h' old new → h' ≡ settled h → new.idle ≡ old.idle → new.faults ≡ counted old.faults → old.nature.steady ≡ false → Receives k to old new answers.Failed
-heard_failed owes k to h h' old new turn left idle faults unsteady = record {
-  only = turn.only;
-  peer = rw (turn.is, turn.was, left) refl;
-  sent = rw (turn.is, turn.was, left) refl;
-  owed = rw (turn.is, turn.was, left) refl;
-  is_open = rw (turn.is, turn.was, left) refl;
-  stalls = rw (turn.is, turn.was, left) (omega arith);
-  stalled = λ fine. rw (turn.is, left) (refl, refl);
-  moved = λ j e. absurd cc;
-  end_ = λ e. absurd cc;
-  not_yet = λ e. absurd cc;
-  failed = λ e. rw (turn.is, turn.was, left, idle, faults) (refl, refl, refl, omega arith);
-  memory = λ e. absurd cc;
-  unfailed = λ able full. absurd (able refl);
-  not_due = λ steady e every. absurd cc;
-  woken = λ steady woken stalled e. absurd cc;
-}
 
 -- a link that a wait answered is ripe
 pub record IsAwake (owes : Owing) (stalls : Bool) (h : Held) : Type 0 where
@@ -346,44 +247,60 @@ module _ (everywhere : Bool) (owes : Owing) (k : ℕ) (links links' : List Held)
         nature = ap (nature_in everywhere) fine.on.failing;
       }
 
+  -- the counts after a call that is not due, and after one that is
+  counts_as : (answer : Moved) (h' : Held) (woke' : Bool) → links' ≡ set links k h' → CountsFine counts counts' → woke' ≡ woke_after answer woke → answer ≢ answers.Failed
+      → (answer ≡ answers.OutOfMemory → h' ≡ here) → CountsBy answer before (after woke')
+  counts_as answer h' woke' is fine woken no_fault same = record {
+    moved = λ n e. rw (woken, e) refl;
+    end_ = λ e. rw (woken, e) refl;
+    not_yet = λ e. rw (woken, e) refl;
+    failed = λ e. absurd (no_fault e);
+    memory = λ e. subst (λ (w : Bool). SameWire before (after w)) (sym (woken ∙ ap (λ (a : Moved). woke_after a woke) e)) (same_wire (is ∙ ap (λ (x : Held). set links k x) (same e)) fine);
+    unfailed = λ able. fine.faults;
+    not_due = λ steady. no_fault;
+  }
+
+  counts_due : CountsFailed counts counts' → CountsBy answers.Failed before (after woke)
+  counts_due due = record {
+    moved = λ n e. absurd cc;
+    end_ = λ e. absurd cc;
+    not_yet = λ e. absurd cc;
+    failed = λ e. (refl, omega (arith, due.faults));
+    memory = λ e. absurd cc;
+    unfailed = λ able. absurd (able refl);
+    not_due = λ steady. let both : true ≡ false = sym steady ∙ unsteady_in everywhere counts.failing due.unsteady in absurd cc;
+  }
+
   -- a send that is not due
   pub sends_as : (n : ℕ) (piece rest : List ℕ) (stalls : Bool) (answer : Moved) (h' : Held) (woke' : Bool)
       → k < length links → links' ≡ set links k h' → CountsFine counts counts' → woke' ≡ woke_after answer woke → IsHeld (owes here.peer) here → Hears stalls (take n piece) here h' answer
       → owes here.peer (here.sent ++ take n piece) ≡ owes here.peer here.sent ++ rest → 0 < n → n ≤ length piece → (stalls ≡ true → here.woken ≡ false) → Sends k piece before (after woke') answer
-  sends_as n piece rest stalls (answers.Moved m) h' woke' below is fine woken held hears longer some few asleep =
-      let all : m ≡ n = hears.moved m refl ∙ length-take-le n piece few in
-      let P : ℕ → Type 0 = λ j. Sends k piece before (after woke') (answers.Moved j) in
-      subst P (sym all) (sent_bytes owes k n piece rest here h' _ _ (turns h' woke' below is fine.on) hears.left longer held.within (rw (woken) refl) fine.faults some few)
-  sends_as n piece rest stalls answers.End h' woke' below is fine woken held hears longer some few asleep = absurd (hears.no_end refl)
-  sends_as n piece rest stalls answers.NotYet h' woke' below is fine woken held hears longer some few asleep =
-      sent_nothing owes k piece here h' _ _ (turns h' woke' below is fine.on) hears.left (asleep (hears.not_yet refl)) hears.later (rw (woken) refl) fine.faults
-  sends_as n piece rest stalls answers.Failed h' woke' below is fine woken held hears longer some few asleep = absurd (hears.no_fault refl)
-  sends_as n piece rest stalls answers.OutOfMemory h' woke' below is fine woken held hears longer some few asleep =
-      let P : Bool → Type 0 = λ w. Sends k piece before (after w) answers.OutOfMemory in
-      subst P (sym woken) (sent_wanting owes k piece here h' _ _ (turns h' woke below is fine.on) hears.left (same_wire (is ∙ ap (λ x. set links k x) hears.left) fine))
+  sends_as n piece rest stalls answer h' woke' below is fine woken held hears longer some few asleep =
+      let lasts = front_lasts here.received (owes here.peer here.sent) (owes here.peer (here.sent ++ take n piece)) rest held.within longer in
+      sends_by owes k piece (take n piece) answer here h' _ _ (turns h' woke' below is fine.on) hears.left hears.later
+      (counts_as answer h' woke' is fine woken hears.no_fault (λ e. hears.left ∙ ap (λ (a : Moved). after_send a (take n piece) here) e)) hears.no_end
+      (λ j same. let all : j ≡ n = hears.moved j same ∙ length-take-le n piece few in record { some = omega (arith, all, some); few = omega (arith, all, few); is = ap (λ (m : ℕ). take m piece) (sym all); lasts = lasts })
+      (λ same. asleep (hears.not_yet same))
 
   -- one that is due
   pub sends_due : (piece : List ℕ) → k < length links → links' ≡ set links k (settled here) → CountsFailed counts counts' → Sends k piece before (after woke) answers.Failed
-  sends_due piece below is due = sent_failed owes k piece here (settled here) _ _ (turns _ woke below is due.on) refl refl due.faults (unsteady_in everywhere counts.failing due.unsteady)
+  sends_due piece below is due =
+      sends_by owes k piece [] answers.Failed here (settled here) _ _ (turns _ woke below is due.on) refl (omega arith) (counts_due due) (λ e. absurd cc) (λ n e. absurd cc) (λ e. absurd cc)
 
   -- a receive that is not due
   pub receives_as : (most : ℕ) (to : List ℕ) (stalls : Bool) (answer : Moved) (h' : Held) (woke' : Bool)
       → k < length links → links' ≡ set links k h' → CountsFine counts counts' → woke' ≡ woke_after answer woke → held.Gives (owes here.peer) most stalls to here h' answer → IsAwake owes stalls here
       → Receives k to before (after woke') answer
-  receives_as most to stalls (answers.Moved n) h' woke' below is fine woken gives awake =
-      let all = gives.moved n refl in
-      heard_bytes owes k n to here h' _ _ (turns h' woke' below is fine.on) gives.left all.3 (rw (woken) refl) fine.faults all.0 all.2
-  receives_as most to stalls answers.End h' woke' below is fine woken gives awake = heard_end owes k to here h' _ _ (turns h' woke' below is fine.on) gives.left (gives.end_ refl) (rw (woken) refl) fine.faults
-  receives_as most to stalls answers.NotYet h' woke' below is fine woken gives awake =
-      heard_nothing owes k to stalls here h' _ _ (turns h' woke' below is fine.on) gives.left gives.later (gives.not_yet refl) awake.moves (rw (woken) refl) fine.faults
-  receives_as most to stalls answers.Failed h' woke' below is fine woken gives awake = absurd (gives.no_fault refl)
-  receives_as most to stalls answers.OutOfMemory h' woke' below is fine woken gives awake =
-      let P : Bool → Type 0 = λ w. Receives k to before (after w) answers.OutOfMemory in
-      subst P (sym woken) (heard_wanting owes k to here h' _ _ (turns h' woke below is fine.on) gives.left (same_wire (is ∙ ap (λ x. set links k x) gives.left) fine))
+  receives_as most to stalls answer h' woke' below is fine woken gives awake =
+      receives_by owes k to answer here h' _ _ (turns h' woke' below is fine.on) gives.left gives.later
+      (counts_as answer h' woke' is fine woken gives.no_fault (λ e. gives.left ∙ ap (λ (a : Moved). after_receive a (is_short (told_there owes here)) here) e))
+      (λ n same. let all = gives.moved n same in (all.0, all.2, all.3)) gives.end_
+      (λ same up way. let both = awake.moves up way in let clash : true ≡ false = sym both.1 ∙ gives.not_yet same both.0 in absurd cc)
 
   -- one that is due
   pub receives_due : (to : List ℕ) → k < length links → links' ≡ set links k (settled here) → CountsFailed counts counts' → Receives k to before (after woke) answers.Failed
-  receives_due to below is due = heard_failed owes k to here (settled here) _ _ (turns _ woke below is due.on) refl refl due.faults (unsteady_in everywhere counts.failing due.unsteady)
+  receives_due to below is due =
+      receives_by owes k to answers.Failed here (settled here) _ _ (turns _ woke below is due.on) refl (omega arith) (counts_due due) (λ n e. absurd cc) (λ e. absurd cc) (λ e. absurd cc)
 
   pub closes_as : k < length links → links' ≡ set links k (closed here) → CountsFine counts counts' → Closes k before (after woke)
   closes_as below is fine = closed_link owes k here (closed here) _ _ (turns _ woke below is fine.on) refl refl fine.faults

@@ -1,5 +1,5 @@
 -- A link, its connection and what is owed.
-use Rattle.std.proofs.Common.{ℕ, zero, suc, ◌≡◌, ◌<◌, ◌≤◌, ◌+◌, ◌-◌, ◌++◌, Bool, true, false, List, [], length, take, nat_lt, ◌==◌, if◌then◌else◌, Option, Some, Result, Ok, Err, OnOk, is_err, refl, ap, sym, subst, ◌∙◌, length-append, arith}
+use Rattle.std.proofs.Common.{ℕ, zero, suc, ◌≡◌, ◌<◌, ◌≤◌, ◌+◌, ◌-◌, ◌++◌, Bool, true, false, List, [], length, take, nat_lt, ◌==◌, if◌then◌else◌, Option, Some, None, Result, Ok, Err, OnOk, is_err, refl, ap, sym, subst, ◌∙◌, length-append, arith}
 use Rattle.std.proofs.lemmas.List.{append-nil, take-append-le, length-take-le}
 use Rattle.std.proofs.Math.Seq.{take-append-add}
 use Rattle.std.proofs.lemmas.Grind.{common_steps}
@@ -130,29 +130,23 @@ module _ {C Data Settings : Type 0} where
 
 -- ---- what is held of a link after a call
 
-pub held_settled : (owes : List ℕ → List ℕ) (held : Held) → IsHeld owes held → IsHeld owes (settled held)
-held_settled owes held is = record {
+-- a link whose last call did not stall is not ripe
+held_free : (owes : List ℕ → List ℕ) (held held' : Held) → IsHeld owes held → held'.ripe ≡ false → held'.stalled ≡ None → held'.woken ≡ false → held'.received ≡ held.received → held'.sent ≡ held.sent → IsHeld owes held'
+held_free owes held held' is unripe free asleep received sent = record {
   ripe = λ ripe. absurd cc;
-  ripe_alone = elim [ ToSend free s ↦ absurd cc | ToReceive free s short ↦ absurd cc ];
+  ripe_alone = elim [ ToSend open_ s ↦ absurd cc | ToReceive open_ s short ↦ absurd cc ];
   awake = λ up. absurd cc;
-  within = is.within;
+  within = rw (received, sent) is.within;
 }
+
+pub held_settled : (owes : List ℕ → List ℕ) (held : Held) → IsHeld owes held → IsHeld owes (settled held)
+held_settled owes held is = held_free owes held (settled held) is refl refl refl refl refl
 
 pub held_ended : (owes : List ℕ → List ℕ) (held : Held) → IsHeld owes held → IsHeld owes (ended_now held)
-held_ended owes held is = record {
-  ripe = λ ripe. absurd cc;
-  ripe_alone = elim [ ToSend free s ↦ absurd cc | ToReceive free s short ↦ absurd cc ];
-  awake = λ up. absurd cc;
-  within = is.within;
-}
+held_ended owes held is = held_free owes held (ended_now held) is refl refl refl refl refl
 
 pub held_closed : (owes : List ℕ → List ℕ) (held : Held) → IsHeld owes held → IsHeld owes (closed held)
-held_closed owes held is = record {
-  ripe = λ ripe. absurd cc;
-  ripe_alone = elim [ ToSend free s ↦ absurd cc | ToReceive free s short ↦ absurd cc ];
-  awake = λ up. absurd cc;
-  within = is.within;
-}
+held_closed owes held is = held_free owes held (closed held) is refl refl refl refl refl
 
 woken_ripe : (owes : List ℕ → List ℕ) (held : Held) → IsRipe (told owes held) → IsRipe (told owes (woken_now held))
 woken_ripe owes held = elim [ ToSend free s ↦ ToSend free s | ToReceive free s short ↦ ToReceive free s short ]
