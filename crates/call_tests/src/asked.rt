@@ -1,6 +1,6 @@
 // One call of a client, and what came of it.
-ghost use Rattle.std.specs.Prelude.{◌≡◌, ◌≤◌};
-ghost use Rattle.tpf_base.specs.declared.limits.TheConstants.{MOST_LINKS};
+ghost use Rattle.std.specs.Prelude.{◌≡◌};
+ghost use Rattle.tpf_client.specs.Bounds.{SuitsCalls};
 
 use control_reader::PageFault;
 use http_wire::ReplyFault;
@@ -137,9 +137,7 @@ pub fn ask<R: Wait, W: Dial>(
     wire: &mut W,
     fails: Failing,
 ) -> Result<Came, Fail>
-    requires window { 1 ≤ options.now.window }
-    requires some { 1 ≤ options.now.links }
-    requires few { options.now.links ≤ MOST_LINKS }
+    requires { SuitsCalls options.now }
 {
     ask_at(rt, alloc, BASE, text, options, wire, fails)
 }
@@ -154,9 +152,7 @@ pub fn ask_at<R: Wait, W: Dial>(
     wire: &mut W,
     fails: Failing,
 ) -> Result<Came, Fail>
-    requires window { 1 ≤ options.now.window }
-    requires some { 1 ≤ options.now.links }
-    requires few { options.now.links ≤ MOST_LINKS }
+    requires { SuitsCalls options.now }
 {
     let asked = parse(alloc, text.as_bytes())?;
     let start = WebAddress::read(alloc, base)?;
