@@ -117,7 +117,7 @@ pub struct Came {
 
 impl Came {
     /// What came of a call that ended so, where the sink took this.
-    pub fn of(
+    pub fn of_call(
         alloc: Global,
         ended: &Result<Report, ClientFault>,
         taken: &[u8],
@@ -158,5 +158,5 @@ pub fn ask_at<R: Wait, W: Dial>(
     let start = WebAddress::read(alloc, base)?;
     let mut out = MemSink::new(alloc, fails);
     let ended = query(rt, alloc, &asked, &start, options, wire, &mut out);
-    Came::of(alloc, &ended, out.taken())
+    Came::of_call(alloc, &ended, out.taken())
 }

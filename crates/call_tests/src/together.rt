@@ -56,7 +56,7 @@ fn ask<R: Wait>(
     let options = options_for_two();
     let mut out = MemSink::new(alloc, Failing::Never);
     let ended = federate(rt, alloc, &asked, starts, &options, wire, &mut out);
-    Came::of(alloc, &ended, out.taken())
+    Came::of_call(alloc, &ended, out.taken())
 }
 
 /// Asks a query of a server at `a` and one at `b` with these data, with so many triples a page.

@@ -63,10 +63,10 @@ pub fn table_of(alloc: Global, text: &str) -> Result<Table, ServerFault> {
 
 /// The configuration of fragments at this address, with so many triples a page.
 pub fn config_at(alloc: Global, base: &str, page_size: u64) -> Result<Config, ServerFault> {
-    match WebAddress::read(alloc, base) {
-        Ok(base) => Config::new(base, page_size).ok_or(ServerFault::Config),
-        Err(_) => Err(ServerFault::Address),
-    }
+    let Ok(base) = WebAddress::read(alloc, base) else {
+        return Err(ServerFault::Address);
+    };
+    Config::new(base, page_size).ok_or(ServerFault::Config)
 }
 
 /// A server of N-Quads text at this address, with so many triples a page.
