@@ -1,5 +1,5 @@
 -- Links stay open.
-use Rattle.std.proofs.Common.{ℕ, ◌≡◌, ◌≢◌, ◌<◌, ◌+◌, true, Option, List, inl, inr, ap, sym, subst, ◌∙◌, arith}
+use Rattle.std.proofs.Common.{ℕ, ◌≡◌, true, Option, List, inl, inr, ap, sym, subst, ◌∙◌, arith}
 use Rattle.std.proofs.lemmas.Bool.{cases_eq}
 use Rattle.tpf_base.specs.Links.{Link, WireState}
 use Rattle.tpf_base.specs.Calls.{OnlyOn, Gives, GivesNone, Wakes}

@@ -1,5 +1,5 @@
 -- A link that is left is open.
-use Rattle.std.proofs.Common.{ℕ, ◌≡◌, Option, Some, None, Result, Ok, Err, true, refl, sym, subst}
+use Rattle.std.proofs.Common.{ℕ, ◌≡◌, Option, Some, Result, Ok, Err, true, refl, sym, subst}
 use Rattle.tpf_base.specs.Links.{WireState}
 use Rattle.http_wire.specs.declared.message.Reply.{Reply}
 use Rattle.futures.specs.declared.task.Poll.TheVariants.{Ready}

@@ -1,5 +1,5 @@
 -- Tickets that are put in order.
-use Rattle.std.proofs.Common.{ℕ, ◌≡◌, ◌≢◌, ◌+◌, ◌<◌, ◌++◌, List, [], ◌∷◌, map, sym, subst, ap, arith}
+use Rattle.std.proofs.Common.{ℕ, ◌≡◌, ◌+◌, ◌<◌, ◌++◌, List, [], ◌∷◌, map, sym, subst, ap, arith}
 use Rattle.std.proofs.lemmas.List.{map-append}
 use Rattle.std.specs.List.{AllByRecursion}
 use Rattle.request_pool.specs.declared.asks.Waiting.{Waiting}
@@ -9,10 +9,6 @@ use Rattle.request_pool.specs.Owned.{SuitsWire}
 
 abbrev pub AreBelow : ℕ → List Ask → Type 0
 AreBelow n asks = AllByRecursion (λ ask. ask.ticket < n) asks
-
-pub fresh : (n : ℕ) (asks : List Ask) → AreBelow n asks → AllByRecursion (λ ask. ask.ticket ≢ n) asks
-fresh n [] h = tt
-fresh n (a ∷ asks) h = ((λ e. absurd (omega (arith, h.0, e))), fresh n asks h.1)
 
 more : (n : ℕ) (asks : List Ask) → AreBelow n asks → AreBelow (n + 1) asks
 more n [] h = tt

@@ -8,7 +8,7 @@ use request_pool::Pool;
 use script_wire::{Script, ScriptWire};
 use std::alloc::Global;
 use std::test::Fail;
-use tpf_base::{Bytes, Failing};
+use tpf_base::{Bytes, Failing, MOST_LINKS};
 
 /// How many asks are put.
 const ASKS: usize = 512;
@@ -56,7 +56,7 @@ fn pool_of(alloc: Global, links: u32) -> Result<Pool, Fail>
 {
     let mut hosts = Vec::new(alloc);
     hosts.resize(ASKS, b'e')?;
-    let links = links.clamp(1, 256);
+    let links = links.clamp(1, MOST_LINKS);
     let mut pool = Pool::new(alloc, links, 0, ASKS as u64, 100);
     put_all(alloc, &mut pool, hosts.as_slice())?;
     Ok(pool)
@@ -77,7 +77,7 @@ fn all_come(alloc: Global, links: u32) -> Result<bool, Fail> {
 
 #[test]
 fn a_reply_costs_no_more_receives_where_more_are_in_flight(rt: HostRuntime) -> Result<(), Fail> {
-    for links in [1, 2, 8, 32, 256] {
+    for links in [1, 2, 8, 32, MOST_LINKS] {
         assert!(rt; all_come(rt.alloc(), links)?, "{links}");
     }
     Ok(())

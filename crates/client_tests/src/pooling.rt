@@ -9,7 +9,7 @@ use request_pool::Pool;
 use script_wire::{Script, ScriptWire};
 use std::alloc::Global;
 use std::test::Fail;
-use tpf_base::{Bytes, Dial, Failing};
+use tpf_base::{Bytes, Dial, Failing, MOST_LINKS};
 
 const KEPT: &str =
     "HTTP/1.1 200 OK\r\nContent-Type: application/n-quads\r\nContent-Length: 1\r\n\r\nx";
@@ -105,7 +105,7 @@ pub fn wire_of(alloc: Global, case: &Case) -> Result<Box<ScriptWire>, Fail> {
 pub fn pool_of(alloc: Global, case: &Case) -> Result<Pool, Fail>
     ensures suits { IfOk result (λ pool. (wire : WireState) → SuitsWire pool wire) }
 {
-    let links = case.links.clamp(1, 256);
+    let links = case.links.clamp(1, MOST_LINKS);
     let mut pool = Pool::new(alloc, links, case.retries, case.budget, 100);
     put_all(alloc, &mut pool, case.hosts.as_bytes())?;
     Ok(pool)

@@ -1,5 +1,4 @@
 -- The tickets that are held are those before this one.
-use Rattle.std.proofs.Common.{◌<◌}
 use Rattle.tpf_base.specs.Links.{WireState}
 use Rattle.request_pool.specs.Pools.{held}
 use Rattle.request_pool.specs.Owned.{SuitsWire}
