@@ -1,11 +1,9 @@
 // The table's pages, compared with fragments found the plain way.
-ghost use Rattle.std.specs.Prelude.{◌≡◌, ◌-◌, ◌<◌, All, IfOk};
+ghost use Rattle.std.specs.Prelude.{◌≡◌, ◌-◌, ◌<◌, All};
 ghost use Rattle.rdf_terms.specs.Triples.{IsRdfQuad};
 ghost use Rattle.triple_table.specs.Stored.{IsRange};
-ghost use Rattle.tpf_base.specs.Addresses.{IsAuthority};
 
 use fragment_pages::page;
-use nquads_text::read_all;
 use plain_fragments::plain_fragment;
 use rdf_terms::{Quad, Slot, Slots, Term, Triple};
 use std::alloc::Global;
@@ -13,6 +11,7 @@ use std::marker::Brand;
 use std::sync::ledger::{Blank, Ledger};
 use std::test::Fail;
 use template_fill::LARGEST_PAGE;
+use test_servers::{host, quads_of};
 use tpf_base::Steps;
 use triple_table::{Choice, Range, Table, served};
 
@@ -24,21 +23,6 @@ const DATA: &str = "<http://e/c> <http://e/n> \"C\" .
 <http://e/a> <http://e/k> <http://e/b> .
 _:x <http://e/k> <http://e/a1> .
 ";
-
-pub(crate) fn host() -> &'static str
-    ensures { IsAuthority result.now }
-{
-    "localhost"
-}
-
-pub(crate) fn quads_of(alloc: Global, text: &str) -> Result<Vec<Quad>, Fail>
-    ensures { IfOk result (λ v. All IsRdfQuad v.items) }
-{
-    match read_all(alloc, text.as_bytes(), 1000) {
-        Ok(quads) => Ok(quads),
-        Err(_) => Err(Fail::new("no data")),
-    }
-}
 
 /// An open slot for a dash, a literal for a text that begins with a quote, else an IRI.
 fn slot(alloc: Global, text: &str) -> Result<Slot, Fail> {

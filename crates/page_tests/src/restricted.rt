@@ -3,7 +3,7 @@ ghost use Rattle.std.specs.Prelude.{◌≡◌, ◌-◌, ◌<◌, ◌≤◌, leng
 ghost use Rattle.rdf_terms.specs.declared.limits.TheConstants.{MOST_ROWS};
 ghost use Rattle.triple_table.specs.Stored.{IsRange};
 
-use crate::plain::{free, host, quads_of};
+use crate::plain::free;
 use fragment_pages::page;
 use rdf_terms::{MOST_ROWS, Slot, Slots, Term};
 use restricted_pages::restricted_page;
@@ -12,8 +12,9 @@ use std::marker::Brand;
 use std::sync::ledger::{Blank, Ledger};
 use std::test::Fail;
 use template_fill::LARGEST_PAGE;
+use test_servers::table_of;
 use tpf_base::Steps;
-use triple_table::{Choice, IdTriple, Range, Table};
+use triple_table::{IdTriple, Range, Table};
 
 /// How many triples there are, each of another subject: 85 of each of 70 objects.
 const TRIPLES: u32 = 5950;
@@ -33,11 +34,7 @@ fn data(alloc: Global) -> Result<String, Fail> {
 
 fn table(alloc: Global) -> Result<Table, Fail> {
     let text = data(alloc)?;
-    let quads = quads_of(alloc, &text)?;
-    match Table::build(alloc, &quads, &Choice::Union, host(), 10000) {
-        Ok(table) => Ok(table),
-        Err(_) => Err(Fail::new("no table")),
-    }
+    Ok(table_of(alloc, &text)?)
 }
 
 fn iri(alloc: Global, text: &str) -> Result<Slot, Fail> {

@@ -1,14 +1,10 @@
 // `http_wire` and `tpf_server`.
-ghost use Rattle.tpf_base.specs.Addresses.{IsAuthority};
-
 use http_wire::{Fed, ReplyFeed};
-use hydra_controls::Config;
-use std::alloc::Global;
 use std::process::Abort;
 use std::test::Fail;
-use template_fill::WebAddress;
+use test_servers::server_of;
+use tpf_base::USUAL_PAGE;
 use tpf_server::{Connection, Server};
-use triple_table::{Choice, Table};
 
 fn is_whole<R: Abort + AllocGlobal>(rt: &R, feed: ReplyFeed) -> Result<(), Fail> {
     let reply = feed.take().ok_or("a whole reply")?;
@@ -35,27 +31,6 @@ fn a_reply_in_two_pieces(rt: HostRuntime) -> Result<(), Fail> {
 
 const FIRST: &str =
     "HTTP/1.1 200 OK\r\nContent-Type: application/n-quads\r\nContent-Length: 2258\r\n\r\n<http://localhost/data#metadata> <http://xmlns.com/foaf/0.1/primaryTopic> <http://localhost/data> <http://localhost/data#metadata> .\n";
-
-fn host() -> &'static str
-    ensures { IsAuthority result.now }
-{
-    "localhost"
-}
-
-fn config_of(alloc: Global) -> Result<Config, Fail> {
-    let base = WebAddress::read(alloc, "http://localhost/data")?;
-    match Config::new(base, 100) {
-        Some(config) => Ok(config),
-        None => Err(Fail::new("no configuration")),
-    }
-}
-
-/// A server without a triple.
-fn server_of(alloc: Global) -> Result<Server, Fail> {
-    let config = config_of(alloc)?;
-    let table = Table::build(alloc, &[], &Choice::Union, host(), 100)?;
-    Ok(Server::new(alloc, table, config)?)
-}
 
 /// Whether a text stands at the front of the response.
 fn starts(response: &[u8], wanted: &str) -> bool {
@@ -87,6 +62,6 @@ fn converse<R: Abort + AllocGlobal>(rt: &R, server: &Server) -> Result<(), Fail>
 
 #[test]
 fn a_page_is_pending_until_it_is_taken(rt: HostRuntime) -> Result<(), Fail> {
-    let server = server_of(rt.alloc())?;
+    let server = server_of(rt.alloc(), "", USUAL_PAGE)?;
     converse(&rt, &server)
 }
