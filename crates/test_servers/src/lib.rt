@@ -9,8 +9,8 @@
 //! ```
 #![tactic(auto)]
 
-mod chains;
+mod chain_text;
 mod servers;
 
-pub use chains::chains;
+pub use chain_text::chains;
 pub use servers::{BASE, ServerFault, config_at, host, quads_of, server_at, server_of, table_of};
