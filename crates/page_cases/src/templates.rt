@@ -1,7 +1,8 @@
 // Templates, and forms over them.
 use crate::addresses::given;
-use crate::slots::{rows_of, slots_of};
+use crate::slots::rows_of;
 use case_rows::{Case, CaseFault, truth_text, word_text};
+use case_slots::slots_of;
 use std::alloc::Global;
 use template_fill::{Form, Template, TemplateFault, Value};
 use text_base::Text;
