@@ -2,8 +2,8 @@ use Rattle.tpf_cli.proofs.Asked.{options_in}
 use Rattle.tpf_cli.proofs.Commanded.{asked_file}
 use Rattle.tpf_cli.proofs.commands.ask_file.Goals as goal
 
-pub local-requires-clause-bounds : goal.local-requires-clause-bounds
-local-requires-clause-bounds g c = options_in _ _ c.options_of.ensures c.requires.client
+pub local-answer-requires-clause-bounds : goal.local-answer-requires-clause-bounds
+local-answer-requires-clause-bounds g c = options_in _ _ c.options_of.ensures c.requires.client
 
 pub returns : goal.returns
 returns g c =
