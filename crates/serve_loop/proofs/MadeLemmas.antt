@@ -1,6 +1,5 @@
 -- A connection that was made ready: what is pending then.
 use Rattle.std.proofs.Common.{ℕ, ◌≡◌, ◌<◌, ◌≤◌, inl, inr, ◌++◌, List, [], length, Bool, true, false, refl, sym, ◌∙◌, ap, subst, arith, length-append}
-use Rattle.std.specs.Prelude.{Result, Ok, Err, OnOk, ⊤}
 use Rattle.list_laws.proofs.Tests.{not_both_ways}
 use Rattle.tpf_base.specs.Links.{WireState}
 use Rattle.connections.specs.Versions.{Serving, SupplyState}
@@ -12,10 +11,6 @@ use Rattle.serve_loop.specs.Steps.{Makes, IsFull, IsFilled, Prepares, IsReady}
 use Rattle.serve_loop.specs.Traffic.{moment}
 use Rattle.serve_loop.proofs.PreparedLemmas.{nothing_pending}
 use Rattle.serve_loop.proofs.AnswerLemmas.{prepares_filled, kept}
-
-pub ok_map : {E : Type 0} (r : Result ⊤ E) (P Q : Type 0) → (P → Q) → OnOk r P → OnOk r Q
-ok_map (Ok x) P Q f h = f h
-ok_map (Err e) P Q f h = tt
 
 live_same : {C : Type 0} (l l' : Live C) → l'.link ≡ l.link → l'.connection ≡ l.connection → l' ≡ l
 live_same l l' e f = λ i. record { link = e i; connection = f i }

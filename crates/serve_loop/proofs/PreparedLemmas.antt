@@ -12,7 +12,7 @@ use Rattle.serve_loop.specs.declared.live.Stepped.{Stepped}
 use Rattle.serve_loop.specs.declared.live.Stepped.TheVariants as stepped
 use Rattle.serve_loop.specs.Traffic.{Talk, Traffic, Moment, updated, moment}
 use Rattle.serve_loop.specs.Relates.{IsTalk}
-use Rattle.serve_loop.specs.Calls.{HasCalled, StepsLive, Speaks, IsPending, IsOwing, IsWaiting, IsQuiet, IsPrepared, left_by, ended_by, starved_by}
+use Rattle.serve_loop.specs.Calls.{HasCalled, StepsLive, IsPrepared, left_by, ended_by, starved_by}
 use Rattle.serve_loop.specs.Steps.{StepsLink, StepsOn, StepsTo, Keeps, Prepares, TalksTo, IsReady}
 use Rattle.serve_loop.proofs.CallLemmas.{only_closes, closes_by}
 use Rattle.serve_loop.proofs.TalkLemmas.{on_plain, still_talk, closes_as}
@@ -111,18 +111,6 @@ module _ {C Data Settings : Type 0} where
       same d.only (closes_by Receiving p.live.link a b (only_closes p.live.link a b d)) (λ e. absurd (none_some m e)) (wanting_step kind served supply a b p.live.link p.live.connection m.connection d)
 
   -- ---- by what the connection has to send
-
-  pub speaks_or : (kind : Kind C Data Settings) (c : C) → Speaks kind c ⊎ IsQuiet kind c
-  speaks_or kind c = elim (none_or (kind.pending c)) [
-    | inl some ↦ inl (IsPending some)
-    | inr none ↦ elim (true_or (kind.owes c)) [
-      | inl owes ↦ inl (IsOwing owes)
-      | inr owes ↦ elim (true_or (kind.wants c)) [
-        | inl wants ↦ inl (IsWaiting wants)
-        | inr wants ↦ inr (record { pending = none; owes = owes; wants = wants })
-      ]
-    ]
-  ]
 
   -- memory was wanting, and the link was closed
   pub need_wanting : (kind : Kind C Data Settings) (c : C) (k : ℕ) (a b : WireState) → Closes k a b → StepsLive kind c stepped.Starved k a b

@@ -2,7 +2,7 @@
 use Rattle.std.proofs.Common.{ℕ, ◌≡◌, ◌≢◌, ◌+◌, ◌<◌, ◌≤◌, ◌⊎◌, inl, inr, List, [], Option, Some, None, Bool, true, false, refl, sym, ◌∙◌, ap, subst, arith}
 use Rattle.std.specs.List.{AllByRecursion}
 use Rattle.tpf_base.specs.Links.{Door, Link, WireState, Tells, CountsAlone, SentAndReceived, All, told_by}
-use Rattle.tpf_base.specs.Calls.{GivesAccepted, GivesNone, OnlyAccepts, OnlyWaits, Wakes}
+use Rattle.tpf_base.specs.Calls.{GivesAccepted, GivesNone, OnlyWaits, Wakes}
 use Rattle.tpf_base.specs.declared.wire.Ready.{Ready}
 use Rattle.tpf_base.specs.declared.wire.Ready.TheVariants as ready
 use Rattle.tpf_base.specs.Sending.{Holds}
@@ -18,7 +18,7 @@ use Rattle.serve_loop.specs.Calls.{IsUntouched, TellsSame, ServesAlone, RestsWir
 use Rattle.serve_loop.specs.Parts.{among, parted}
 use Rattle.serve_loop.specs.Steps.{GoesOnAt, Welcomes, TurnsTo}
 use Rattle.serve_loop.proofs.PartLemmas.{among_some, among_in}
-use Rattle.serve_loop.proofs.CallLemmas.{alone_none, alone_then}
+use Rattle.serve_loop.proofs.CallLemmas.{alone_then}
 use Rattle.serve_loop.proofs.BelowLemmas.{nothing, live_keeps, moves_on, stays_on}
 use Rattle.tpf_base.specs.Causes.{Rose}
 use Rattle.std.specs.Prelude.{◌||◌}
@@ -42,9 +42,6 @@ told_nothing told All e = λ x t. cc
 pub rests_none : (a b : WireState) → GivesNone a b → ServesAlone a b → RestsWire a b
 rests_none a b h alone = record { links = λ k. older_as (a.links k) (a.links k) (b.links k) (h.links k) ((a.links k).woken, refl); given = h.given; alone = alone }
 
-pub rests_same : (w : WireState) → RestsWire w w
-rests_same w = record { links = λ k. ((w.links k).woken, refl); given = refl; alone = alone_none w }
-
 pub alone_waits : (a b : WireState) → OnlyWaits a b → ServesAlone a b
 alone_waits a b x = let s = x.door.stalls in record {
   dials = x.dials;
@@ -55,9 +52,6 @@ alone_waits a b x = let s = x.door.stalls in record {
   door_faults = x.door.later;
   faults = x.later;
 }
-
-pub alone_accepts : (a b : WireState) → OnlyAccepts a b → a.door.faults ≤ b.door.faults → ServesAlone a b
-alone_accepts a b x later = record { dials = x.dials; nature = x.nature; place = x.place; calls = x.calls; stalls = x.stalls; door_faults = later; faults = x.later }
 
 pub untouched_same : (x y : Link) → y ≡ x → IsUntouched x y
 untouched_same x y e = older_as x x y e (x.woken, refl)

@@ -117,45 +117,6 @@ fn ends(stepped: Stepped) -> bool
     }
 }
 
-/// Steps the connection of a key, if there is one, and forgets it where it ended.
-fn step_at<C: Converses, S: Supply<C::Server>, W: Wire>(
-    live: &mut Slab<Live<C>>,
-    key: usize,
-    buffer: &mut [u8],
-    server: &mut C::Server,
-    supply: &mut S,
-    wire: &mut W,
-) -> Option<Stepped>
-    requires room { 0 < length buffer.old }
-    requires most { length buffer.old ≤ MOST_RECEIVED }
-    requires suits { SuitsWire C.Suits server.old (λ key. get live.old key) (W.state wire.old) }
-    ensures room { length buffer.new ≡ length buffer.old }
-    ensures suits { SuitsWire C.Suits server.new (λ key. get live.new key) (W.state wire.new) }
-    ensures others { (other : ℕ) → other ≢ key → get live.new other ≡ get live.old other }
-    ensures len { slab_len live.new + (turned_by result).ended ≡ slab_len live.old }
-    ensures turns { TurnsOn C.kind (S.may supply.old) (kept live.old) (kept live.new)
-        (moment (C.Server.serving server.old) (S.state supply.old) (W.state wire.old))
-        (moment (C.Server.serving server.new) (S.state supply.new) (W.state wire.new)) (turned_by result) }
-    ensures asks { (same : WireState) → AnswersAt C.kind (S.may supply.old) (get live.old key)
-        (moment (C.Server.serving server.old) (S.state supply.old) same)
-        (moment (C.Server.serving server.new) (S.state supply.new) same) }
-    ensures calls { CallsAt C.kind (get live.old key) result (W.state wire.old) (W.state wire.new) }
-    ensures lasts { (l m : Live C) → get live.old key ≡ Some l → get live.new key ≡ Some m →
-        GoesOnSpeaking C.kind l.connection m.connection }
-    ensures follows { C.Server.Follows server.old server.new }
-    ensures keeps { S.Keeps supply.old supply.new }
-    ensures same { (data_set : C.Server.Data) → S.may supply.new data_set ↔ S.may supply.old data_set }
-{
-    let stepped = match live.get_mut(key) {
-        Some(connection) => step(connection, buffer, server, supply, wire),
-        None => return None,
-    };
-    if ends(stepped) {
-        live.try_remove(key);
-    }
-    Some(stepped)
-}
-
 /// Whether a key has a connection of the part.
 fn is_among<C: Drop>(live: &Slab<Live<C>>, key: usize, part: Part) -> bool
     ensures yes { result ≡ true → among part (get live.now key) ≡ get live.now key }
@@ -167,7 +128,7 @@ fn is_among<C: Drop>(live: &Slab<Live<C>>, key: usize, part: Part) -> bool
     }
 }
 
-/// Steps the connection of a key, if there is one of the part.
+/// Steps the connection of a key, if there is one of the part, and forgets it where it ended.
 fn step_among<C: Converses, S: Supply<C::Server>, W: Wire>(
     live: &mut Slab<Live<C>>,
     key: usize,
@@ -197,10 +158,17 @@ fn step_among<C: Converses, S: Supply<C::Server>, W: Wire>(
     ensures keeps { S.Keeps supply.old supply.new }
     ensures same { (data_set : C.Server.Data) → S.may supply.new data_set ↔ S.may supply.old data_set }
 {
-    if is_among(live, key, part) {
-        return step_at(live, key, buffer, server, supply, wire);
+    if !is_among(live, key, part) {
+        return None;
     }
-    None
+    let stepped = match live.get_mut(key) {
+        Some(connection) => step(connection, buffer, server, supply, wire),
+        None => return None,
+    };
+    if ends(stepped) {
+        live.try_remove(key);
+    }
+    Some(stepped)
 }
 
 impl Turned {
