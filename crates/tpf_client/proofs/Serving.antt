@@ -23,7 +23,6 @@ use Rattle.tpf_client.specs.Sources.{IsSourceOf, world_sources}
 use Rattle.tpf_client.specs.Calls.{RunsPool}
 use Rattle.tpf_client.specs.Offers.{Publisher, Offer, IsVersionOf, is_served, addresses_in_blocks, offer_in_blocks}
 use Rattle.tpf_client.specs.Honest.{Laws, IsHonestWire}
-use Rattle.tpf_client.specs.Plans.{AtEach}
 use Rattle.tpf_client.proofs.Covered.{BeginsWith, ChoiceBehind, StandsThere, Covered}
 use Rattle.tpf_client.proofs.Homes.{one-read}
 use Rattle.tpf_client.proofs.Headline.{start-is-served, world-of}
@@ -113,8 +112,3 @@ pub server-covered : (laws : Laws) (allows : List ℕ → ℕ → List ℕ → L
 server-covered laws allows options since now lawful limit p start honest q block sized =
     offer-covered laws allows options since now lawful limit p start (λ version. true) (serves-any allows start p.history p.config since honest) q block sized
     (IsVersionOf p.history) (λ version is any. is) (λ version is. is) 1 (record { low = omega arith; high = honest.is_history.low })
-
--- ---- what holds of the one server holds at each address of each server that stands there
-
-pub at-server : (block : ℕ) (p : Publisher) (q : QueryData) (start : Address) (holds : Publisher → Address → Type 0) (address : Address) → holds p address → AtEach (offer_in_blocks block p q start) holds address
-at-server block p q start holds address h = λ server stands. subst (λ (s : Publisher). holds s address) (sym stands) h

@@ -30,11 +30,6 @@ pub on-err-of : {A B : Type 0} (r : Result A B) (P : B → Type 0) (Q : Type 0) 
 on-err-of (Ok x) P Q f p = tt
 on-err-of (Err e) P Q f p = f e p
 
--- the same, with what is known before what is made of it
-pub on-ok-from : {A B : Type 0} (r : Result A B) (P Q : Type 0) → OnOk r P → (P → Q) → OnOk r Q
-on-ok-from (Ok x) P Q p f = f p
-on-ok-from (Err e) P Q p f = tt
-
 pub on-ok-two : {A B : Type 0} (r : Result A B) (P Q S : Type 0) → OnOk r P → OnOk r Q → (P → Q → S) → OnOk r S
 on-ok-two (Ok x) P Q S p q f = f p q
 on-ok-two (Err e) P Q S p q f = tt

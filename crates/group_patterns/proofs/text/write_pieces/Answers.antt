@@ -1,6 +1,6 @@
 -- One row more at each turn.
 use Rattle.std.proofs.Common.{length, ◌≤◌, ◌<◌, arith}
-use Rattle.tpf_client.proofs.Shutting.{on-ok-from}
+use Rattle.std.proofs.lemmas.Result.{on_ok_weaker}
 use Rattle.tpf_client.proofs.Sinks.{stays-none, stays-then, stays-ok, keeps-behind, writes-keeps}
 use Rattle.group_patterns.proofs.Ending.{on-err-from}
 use Rattle.group_patterns.proofs.Writing.{none-written, row-written, row-part, all-written, end-part}
@@ -31,7 +31,7 @@ returns-in-Err-clause-sink g c = keeps-behind _ _ _ _ c.loop-row.invariant.sink 
 pub returns-clause-ok : goal.returns-clause-ok
 returns-clause-ok g c =
     let past : length c.args.rows.now ≤ c.loop-row.row-index = omega (arith, c.loop-row-test.false) in
-    on-ok-from c.finish.result _ _ c.finish.ensures.ok (λ b. all-written c.pieces_make_the_text.ensures c.args.writer.now.query c.args.rows.now c.loop-row.row-index c.loop-row.writer _ _ _ past c.loop-row.invariant.written b)
+    on_ok_weaker c.finish.result (λ b. all-written c.pieces_make_the_text.ensures c.args.writer.now.query c.args.rows.now c.loop-row.row-index c.loop-row.writer _ _ _ past c.loop-row.invariant.written b) c.finish.ensures.ok
 
 pub returns-clause-err : goal.returns-clause-err
 returns-clause-err g c =

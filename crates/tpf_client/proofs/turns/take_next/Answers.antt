@@ -9,7 +9,8 @@ use Rattle.tpf_client.specs.Turns.{keeps_both, TakesReply}
 use Rattle.tpf_client.proofs.Meeting.{meets-out}
 use Rattle.tpf_client.proofs.Going.{went-taken, given-taken, failed-taken, failed-shown, never-sink, shown-no-sink}
 use Rattle.tpf_client.proofs.Taking.{take-at, takes-at}
-use Rattle.tpf_client.proofs.Shutting.{on-ok-from, if-err-from}
+use Rattle.std.proofs.lemmas.Result.{on_ok_weaker}
+use Rattle.tpf_client.proofs.Shutting.{if-err-from}
 use Rattle.tpf_client.proofs.turns.take_next.Given as given
 use Rattle.tpf_client.proofs.turns.take_next.Goals as goal
 
@@ -24,8 +25,9 @@ take_reply-requires g c =
 -- the page was taken, by the version that the start page of its server told
 taken : (g : given.Over) (c : goal.After-take_reply g) → OnOk c.take_reply.result (TakesReply g.E.Evaluates.suits g.E.Evaluates.account (keeps_both g.E.Evaluates.keeps_to g.E.Evaluates.keeps_small) g.E.Evaluates.standing g.E.Evaluates.is_true c.args.evaluation.now c.take_reply.new.evaluation c.in-Ok.arrived (told_in c.args.bounds))
 taken g c =
-    on-ok-from c.take_reply.result _ _ c.take_reply.ensures.ok
+    on_ok_weaker c.take_reply.result
     (λ t. takes-at g.E.Evaluates.suits g.E.Evaluates.account (keeps_both g.E.Evaluates.keeps_to g.E.Evaluates.keeps_small) g.E.Evaluates.standing g.E.Evaluates.is_true c.args.evaluation.now c.take_reply.new.evaluation c.in-Ok.arrived c.version_at-version.result (told_in c.args.bounds) c.version_at-version.ensures t)
+    c.take_reply.ensures.ok
 
 -- or it was not
 refused : (g : given.Over) (c : goal.After-take_reply g) → IfErr c.take_reply.result (IsTakeFault c.in-Ok.arrived (told_in c.args.bounds))
