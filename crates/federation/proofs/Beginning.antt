@@ -1,5 +1,6 @@
 -- A federation before its first ask.
 use Rattle.std.proofs.Common.{ℕ, zero, suc, min, inl, inr, ◌≡◌, ◌*◌, ◌<◌, ◌≤◌, List, [], refl, ap, sym, subst, ◌∙◌, arith}
+use Rattle.std.proofs.Math.Nat.{mul-pos}
 use Rattle.std.specs.List.{All}
 use Rattle.std.proofs.lemmas.Bool.{cases_lt}
 use Rattle.std.proofs.lemmas.List.Elements.{All-nil}
@@ -10,14 +11,14 @@ use Rattle.request_plan.specs.Worlds.{World}
 use Rattle.join_core.specs.Joins.{JoinData, tickets_out, Begins}
 use Rattle.join_core.specs.JoinLaws.{begun-left}
 use Rattle.request_plan.specs.Evaluations.{Terms}
-use Rattle.join_core.specs.Sound.{KeepsTo}
+use Rattle.join_core.specs.Sound.{KeepsTo, IsKeptSmall}
 use Rattle.plan_laws.specs.JointWorlds.{joint_world}
 use Rattle.joint_pages.specs.Gatherings.{GatheringData}
 use Rattle.joint_pages.specs.Truths.{AreServers, HoldsTrue}
 use Rattle.bgp_core.specs.Solutions.{no_names_bound}
 use Rattle.request_plan.specs.Beginnings.{BeginsWith}
-use Rattle.federation.specs.Beginnings.{joint_rows, joint_plan}
-use Rattle.federation.specs.Federations.{FederationData, SuitsAll, KeepsAll, KeepsRound, IsItsRound, account_of, times}
+use Rattle.federation.specs.Beginnings.{joint_rows, joint_plan, most_pages}
+use Rattle.federation.specs.Federations.{FederationData, SuitsAll, KeepsAll, KeepsSmall, KeepsRound, IsItsRound, account_of, times}
 
 -- ---- products that stand still at a bound
 
@@ -64,4 +65,14 @@ fresh-keeps terms j most k e = record {
   numbers = λ n. ap (λ (l : List ℕ). times n l) e;
   tickets = All-nil (λ t. t < 0);
   counted = refl;
+}
+
+pub fresh-small : (patterns window servers : ℕ) (j : JoinData) (most : ℕ) → IsKeptSmall patterns 1 j → j.longest ≡ 1 → 1 ≤ window → 0 < servers → most ≡ most_pages patterns window servers → KeepsSmall (record { patterns = patterns; window = window * servers }) (fresh j most)
+fresh-small patterns window servers j most k e some servers_are is = record {
+  join = subst (λ (m : ℕ). IsKeptSmall patterns m j) (sym e) k;
+  window = mul-pos some servers_are;
+  most = omega (arith, is);
+  rounds = All-nil (λ g. 0 < patterns);
+  counted = refl;
+  few = omega arith;
 }

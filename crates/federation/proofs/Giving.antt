@@ -45,44 +45,44 @@ module _ (old new : FederationData) (row : Option Places) (h : GivesOne old new 
   after P p = subst P (sym h.done) p
 
   pub given-none : MatchOption row ((standing_of old).waiting ≡ 0) (λ r. TakesOne (standing_of old) (standing_of new))
-  given-none = by row h.none h.one where
+  given-none = by row h.takes.none h.takes.one where
     by : (o : Option Places) → MatchOption o (old.join.waiting ≡ []) (λ r. ⊤) → MatchOption o ⊤ (λ r. length old.join.waiting ≡ length h.join.waiting + 1) → MatchOption o ((standing_of old).waiting ≡ 0) (λ r. TakesOne (standing_of old) (standing_of new))
     by None e one = ap length e
     by (Some r) e one = after (λ f. TakesOne (standing_of old) (standing_of f)) (record { given = refl; out = refl; waiting = one })
 
   pub given-unchanged : MatchOption row (new ≡ old) (λ r. ⊤)
-  given-unchanged = by row h.stays where
+  given-unchanged = by row h.takes.stays where
     by : (o : Option Places) → MatchOption o (h.join ≡ old.join) (λ r. ⊤) → MatchOption o (new ≡ old) (λ r. ⊤)
     by None e = h.done ∙ ap (λ (j : JoinData). with-join old j) e
     by (Some r) e = tt
 
   pub given-suits : (worlds : List World) → SuitsAll worlds old → SuitsAll worlds new
-  given-suits worlds s = after (SuitsAll worlds) (by row h.stays (h.gives (joint_world worlds) s.join)) where
+  given-suits worlds s = after (SuitsAll worlds) (by row h.takes.stays (h.takes.row (joint_world worlds) s.join)) where
     by : (o : Option Places) → MatchOption o (h.join ≡ old.join) (λ r. ⊤) → MatchOption o ⊤ (GivesRow (joint_world worlds) old.join h.join) → SuitsAll worlds (with-join old h.join)
     by None e g = subst (λ (j : JoinData). SuitsAll worlds (with-join old j)) (sym e) s
-    by (Some r) e g = row-suits worlds old h.join r g h.tickets s
+    by (Some r) e g = row-suits worlds old h.join r g h.takes.kept.0 s
 
   pub given-owes : (worlds : List World) → SuitsAll worlds old → MatchOption row ⊤ (GivesOwed (account_of worlds old) (account_of worlds new))
-  given-owes worlds s = by row (h.gives (joint_world worlds) s.join) where
+  given-owes worlds s = by row (h.takes.row (joint_world worlds) s.join) where
     by : (o : Option Places) → MatchOption o ⊤ (GivesRow (joint_world worlds) old.join h.join) → MatchOption o ⊤ (GivesOwed (account_of worlds old) (account_of worlds new))
     by None g = tt
     by (Some r) g = after (λ f. GivesOwed (account_of worlds old) (account_of worlds f) r) (row-owes worlds old h.join r g)
 
   pub given-keeps : (terms : Terms) → KeepsAll terms old → KeepsAll terms new
   given-keeps terms k = after (KeepsAll terms) (record {
-    join = h.keeps terms k.join;
+    join = h.takes.keeps terms k.join;
     rounds = k.rounds;
-    numbers = λ n. ap (λ (l : List ℕ). times n l) h.out ∙ k.numbers n;
+    numbers = λ n. ap (λ (l : List ℕ). times n l) h.takes.tickets ∙ k.numbers n;
     tickets = k.tickets;
     counted = k.counted;
   })
 
   pub given-width : (terms : Terms) → KeepsAll terms old → MatchOption row ⊤ (λ r. length r ≡ terms.width)
-  given-width terms k = h.width terms k.join
+  given-width terms k = h.takes.width terms k.join
 
   pub given-small : (sizes : Sizes) → KeepsSmall sizes old → KeepsSmall sizes new
   given-small sizes k = after (KeepsSmall sizes) (record {
-    join = subst (λ (m : ℕ). IsKeptSmall sizes.patterns m h.join) (sym h.longest) (h.small sizes.patterns old.join.longest k.join);
+    join = subst (λ (m : ℕ). IsKeptSmall sizes.patterns m h.join) (sym h.takes.kept.1) (h.takes.small sizes.patterns old.join.longest k.join);
     window = k.window;
     most = k.most;
     rounds = k.rounds;

@@ -1,5 +1,5 @@
 -- What the calls of a federation make of it.
-use Rattle.std.specs.Prelude.{ℕ, Bool, ◌≡◌, ◌==◌, ◌+◌, ◌-◌, ◌<◌, ◌≤◌, ◌⊎◌, List, [], ◌∷◌, ◌++◌, length, Option, Some, None, MatchOption, ⊤, true}
+use Rattle.std.specs.Prelude.{ℕ, Bool, ◌≡◌, ◌==◌, ◌+◌, ◌-◌, ◌<◌, ◌≤◌, ◌⊎◌, List, [], ◌∷◌, ◌++◌, length, Option, Some, None, true}
 use Rattle.std.specs.List.{All}
 use Rattle.tpf_base.specs.Addresses.{Address}
 use Rattle.fragment_page.specs.declared.page.Page.{Page}
@@ -11,7 +11,8 @@ use Rattle.request_plan.specs.declared.round.RoundAsk.{RoundAsk}
 use Rattle.request_plan.specs.declared.joint_page.JointPage.{JointPage}
 use Rattle.request_plan.specs.Worlds.{World}
 use Rattle.request_plan.specs.Rounds.{RoundAtHome, NextRoundAtHome}
-use Rattle.join_core.specs.Joins.{JoinData, Suits, HandsOut, IsTrueFor, AsksAt, GivesRow, tickets_out}
+use Rattle.join_core.specs.Joins.{JoinData, Suits, HandsOut, IsTrueFor, AsksAt, tickets_out}
+use Rattle.join_core.specs.TakenRows.{TakesRow}
 use Rattle.join_core.specs.Outcomes.{NewTicket, NothingToAsk, AnswerDone, AnswerNumbered, WaitsMore}
 use Rattle.request_plan.specs.Evaluations.{Terms}
 use Rattle.join_core.specs.Sound.{KeepsTo, IsKeptSmall}
@@ -136,13 +137,4 @@ Answers old new ticket page Taken = TakesOne old new ticket page ⊎ TakesLast o
 pub record GivesOne (old new : FederationData) (row : Option Places) : Type 0 where
   pub join : JoinData
   pub done : new ≡ record { join = join; rounds = old.rounds; given = old.given; awaited = old.awaited; most = old.most }
-  pub none : MatchOption row (old.join.waiting ≡ []) (λ r. ⊤)
-  pub stays : MatchOption row (join ≡ old.join) (λ r. ⊤)
-  pub gives : (w : World) → Suits w old.join → MatchOption row ⊤ (GivesRow w old.join join)
-  pub one : MatchOption row ⊤ (λ r. length old.join.waiting ≡ length join.waiting + 1)
-  pub out : tickets_out join ≡ tickets_out old.join
-  pub keeps : (terms : Terms) → KeepsTo terms old.join → KeepsTo terms join
-  pub width : (terms : Terms) → KeepsTo terms old.join → MatchOption row ⊤ (λ r. length r ≡ terms.width)
-  pub small : (n m : ℕ) → IsKeptSmall n m old.join → IsKeptSmall n m join
-  pub tickets : join.tickets ≡ old.join.tickets
-  pub longest : join.longest ≡ old.join.longest
+  pub takes : TakesRow old.join join row

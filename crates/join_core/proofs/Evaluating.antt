@@ -1,38 +1,40 @@
 -- A join over one server, as an evaluation.
-use Rattle.std.proofs.Common.{ℕ, ◌≡◌, ◌≤◌, ◌<◌, ◌*◌, ◌&&◌, ◌==◌, true, List, [], ◌∷◌, ◌++◌, map, length, Option, Some, None, inl, inr, ◌⊎◌, ap, sym, subst, ◌∙◌, Ok, Err, arith}
+use Rattle.std.proofs.Common.{ℕ, ◌≡◌, ◌+◌, ◌≤◌, ◌<◌, ◌*◌, ◌&&◌, ◌==◌, true, List, [], ◌∷◌, ◌++◌, map, length, Option, Some, None, inl, inr, ◌⊎◌, ap, sym, subst, ◌∙◌, Ok, Err, arith}
 use Rattle.std.specs.Prelude.{Result, IfOk, OnOk, MatchOption, ⊤}
 use Rattle.std.specs.Option.{option_map}
 use Rattle.std.specs.List.{All, Contains}
 use Rattle.std.specs.List.Sorted.{IsPermutation}
 use Rattle.std.proofs.lemmas.Nat.{mul-le}
 use Rattle.std.proofs.lemmas.List.Elements.{All-nil, All-cons, All-head}
-use Rattle.std.proofs.lemmas.List.Sorted.{IsPermutation-sym, Contains-permutation}
+use Rattle.std.proofs.lemmas.List.Sorted.{IsPermutation-refl, IsPermutation-sym, Contains-permutation}
 use Rattle.list_laws.proofs.Members.{at_head, in_flat_map}
 use Rattle.list_laws.proofs.Orders.{flat_map_IsPermutation}
 use Rattle.tpf_base.specs.Addresses.{Address}
 use Rattle.request_plan.specs.declared.evaluation.Ask.{Ask}
 use Rattle.request_plan.specs.declared.evaluation.Answered.{Answered}
 use Rattle.request_plan.specs.declared.evaluation.Answered.TheVariants.{Taken, Stranger}
-use Rattle.request_plan.specs.Rounds.{RoundData, round_of_one, addresses_in, NextRoundAtHome}
+use Rattle.request_plan.specs.Rounds.{RoundData, round_of_one, addresses_in, FormsAtHome, NextRoundAtHome}
 use Rattle.request_plan.specs.Worlds.{World, IsRoundPageAt, IsOneServer, IsPageAt}
 use Rattle.join_core.specs.Ones.{SuitsOne, AsksFirstAt, AskStartsOne, pairs_in, round_ask}
 use Rattle.request_plan.specs.JointPages.{joint_page}
 use Rattle.fragment_page.specs.declared.page.Page.{Page}
 use Rattle.join_core.proofs.Rounded.{out-is-round, one-address-of}
-use Rattle.bgp_core.specs.declared.pattern.Pattern.{Pattern}
-use Rattle.bgp_core.specs.Solutions.{Places, solutions}
+use Rattle.bgp_core.specs.Solutions.{Places, no_names_bound}
 use Rattle.template_fill.specs.declared.form.Form.{Form}
 use Rattle.request_plan.specs.declared.joint_page.JointPage.{JointPage}
 use Rattle.join_core.specs.declared.first.First.TheVariants.{Got}
-use Rattle.request_plan.specs.Plans.{round_plan, plan}
+use Rattle.request_plan.specs.Plans.{round_plan}
 use Rattle.join_core.specs.Nodes.{NodeData}
-use Rattle.request_plan.specs.Beginnings.{BeginsWith}
+use Rattle.request_plan.specs.Beginnings.{BeginsWith, FitsWorld, world_rows, world_plan, terms_of, sizes_of}
+use Rattle.bgp_core.specs.Queries.{QueryData}
 use Rattle.join_core.specs.Events.{with_first_at}
-use Rattle.join_core.specs.Sound.{IsKeptSmall, KeepsSizes}
-use Rattle.join_core.specs.Joins.{JoinData, nodes, left_over, out, Begins, IsTrueFor, HandsOut, AsksAt, TakesFirst, TakesNext, TakesFirstAt, with_longest}
+use Rattle.join_core.specs.Sound.{KeepsTo, IsKeptSmall, KeepsSizes}
+use Rattle.join_core.specs.Joins.{JoinData, nodes, left_over, out, Suits, GivesRow, IsTrueFor, HandsOut, AsksAt, TakesFirst, TakesNext, TakesFirstAt, with_longest}
 use Rattle.join_core.specs.Outcomes.{AskDone, AskNumbered, AnswerDone, AnswerTakes, GivesWaiting}
+use Rattle.join_core.specs.NewJoins.{IsNewJoin}
+use Rattle.join_core.specs.TakenRows.{TakesRow}
 use Rattle.join_core.specs.JoinAccounts.{is_over, account_of, standing_of}
-use Rattle.request_plan.specs.Evaluations.{HasHome, NextAtHome, Sizes, OwesAfterAsk, OwesAfterAnswer, StandsAfterAsk}
+use Rattle.request_plan.specs.Evaluations.{HasHome, NextAtHome, Sizes, OwesAfterAsk, OwesAfterAnswer, StandsAfterAsk, TakesOne, GivesOwed}
 
 -- ---- authorities
 
@@ -107,13 +109,24 @@ answer-suits w old new ticket (Err x) s h = tt
 
 -- ---- before the first turn
 
-pub begun-suits : {E : Type 0} (w : World) (patterns : List Pattern) (row : Places) (r : Result JoinData E) → IsOneServer w → IfOk r (Begins w patterns row) → IfOk r (λ j. SuitsOne w j)
-begun-suits w patterns row (Ok j) one h = (one, h.suits)
-begun-suits w patterns row (Err e) one h = tt
+module _ {E : Type 0} (q : QueryData) (forms : List Form) (window block : ℕ) where
+  pub begun-suits : (r : Result JoinData E) → IfOk r (IsNewJoin q forms window block) → (w : World) → FitsWorld w forms block → IfOk r (λ j. SuitsOne w j)
+  begun-suits (Ok j) new w fits = (fits.one, (new.begins w fits.world fits.forms_are fits.rows).suits)
+  begun-suits (Err e) new w fits = tt
 
-pub begun-owes : {E : Type 0} (w : World) (patterns : List Pattern) (row : Places) (r : Result JoinData E) → IfOk r (Begins w patterns row) → IfOk r (λ j. BeginsWith (solutions w.triples patterns row) (plan w patterns row) (account_of w j))
-begun-owes w patterns row (Ok j) h = record { owed = h.owed; left = turned (round_plan w patterns (row ∷ [])) (left_over w j) h.left; out = ap (λ (l : List (ℕ × RoundData)). pairs_in l) h.out }
-begun-owes w patterns row (Err e) h = tt
+  pub begun-owes : (r : Result JoinData E) → IfOk r (IsNewJoin q forms window block) → (w : World) → FitsWorld w forms block → IfOk r (λ j. BeginsWith (world_rows w q) (world_plan w q) (account_of w j))
+  begun-owes (Ok j) new w fits =
+      let begins = new.begins w fits.world fits.forms_are fits.rows in
+      record { owed = begins.owed; left = turned (round_plan w q.patterns (no_names_bound q ∷ [])) (left_over w j) begins.left; out = ap (λ (l : List (ℕ × RoundData)). pairs_in l) begins.out }
+  begun-owes (Err e) new w fits = tt
+
+  pub begun-keeps : (r : Result JoinData E) → IfOk r (IsNewJoin q forms window block) → (homes : List Address) → FormsAtHome homes forms → IfOk r (λ j. KeepsTo (terms_of homes q) j)
+  begun-keeps (Ok j) new homes home = new.keeps homes home
+  begun-keeps (Err e) new homes home = tt
+
+  pub begun-stands : (r : Result JoinData E) → IfOk r (IsNewJoin q forms window block) → IfOk r (λ j. ((standing_of j).given ≡ 0) × ((standing_of j).out ≡ []))
+  begun-stands (Ok j) new = new.tickets
+  begun-stands (Err e) new = tt
 
 -- ---- pages
 
@@ -161,10 +174,10 @@ small-so patterns window forms j some k l w = record {
   window = within j.window window (window * length forms) w (many-times window (length forms) some);
 }
 
-pub begun-small : {E : Type 0} (patterns window : ℕ) (forms : List Form) (r : Result JoinData E) → 0 < length forms → IfOk r (IsKeptSmall patterns 1) → IfOk r (λ j. j.longest ≡ 1) → IfOk r (λ j. j.window ≡ window)
-    → IfOk r (λ j. KeepsSizes (record { patterns = patterns; window = window * length forms }) j)
-begun-small patterns window forms (Ok j) some k l w = small-so patterns window forms j some k l w
-begun-small patterns window forms (Err e) some k l w = tt
+pub begun-small : {E : Type 0} (q : QueryData) (forms : List Form) (window block : ℕ) (r : Result JoinData E) → IfOk r (IsNewJoin q forms window block) → 0 < length forms
+    → IfOk r (λ j. KeepsSizes (sizes_of q (window * length forms)) j)
+begun-small q forms window block (Ok j) new some = small-so (length q.patterns) window forms j some new.small new.longest new.window
+begun-small q forms window block (Err e) new some = tt
 
 ask-sizes : (sizes : Sizes) (old new : JoinData) (ask : Option Ask) → AskStartsOne old new ask → ((n m : ℕ) → IsKeptSmall n m old → IsKeptSmall n m new) → KeepsSizes sizes old → KeepsSizes sizes new
 ask-sizes sizes old new None h small k = subst (λ (j : JoinData). KeepsSizes sizes j) (sym h) k
@@ -191,9 +204,33 @@ answer-sizes sizes old new ticket page (Ok Taken) h small k = record { small = s
 answer-sizes sizes old new ticket page (Ok Stranger) h small k = record { small = small k.small; window = within new.window old.window sizes.window (ap (λ (j : JoinData). j.window) h) k.window }
 answer-sizes sizes old new ticket page (Err x) h small k = tt
 
-pub row-sizes : (sizes : Sizes) (old new : JoinData) (o : Option Places) → MatchOption o (new ≡ old) (λ row. ⊤) → MatchOption o ⊤ (GivesWaiting old new) → ((n m : ℕ) → IsKeptSmall n m old → IsKeptSmall n m new) → KeepsSizes sizes old → KeepsSizes sizes new
-row-sizes sizes old new None stays gives small k = subst (λ (j : JoinData). KeepsSizes sizes j) (sym stays) k
-row-sizes sizes old new (Some row) stays gives small k = record {
-  small = subst (λ (m : ℕ). IsKeptSmall sizes.patterns m new) (sym (ap (λ (j : JoinData). j.longest) gives.done)) (small sizes.patterns old.longest k.small);
-  window = within new.window old.window sizes.window (ap (λ (j : JoinData). j.window) gives.done) k.window;
-}
+-- ---- a row was taken
+
+module _ (old new : JoinData) (row : Option Places) (t : TakesRow old new row) where
+  pub row-stands : MatchOption row ((standing_of old).waiting ≡ 0) (λ taken. TakesOne (standing_of old) (standing_of new))
+  row-stands = by row t.none t.one where
+    by : (o : Option Places) → MatchOption o (old.waiting ≡ []) (λ taken. ⊤) → MatchOption o ⊤ (λ taken. length old.waiting ≡ length new.waiting + 1)
+        → MatchOption o ((standing_of old).waiting ≡ 0) (λ taken. TakesOne (standing_of old) (standing_of new))
+    by None none one = ap length none
+    by (Some taken) none one = record { given = t.kept.0; out = t.tickets; waiting = one }
+
+  pub row-suits : (w : World) → SuitsOne w old → SuitsOne w new
+  row-suits w s = (s.0, by row t.stays (t.row w s.1)) where
+    by : (o : Option Places) → MatchOption o (new ≡ old) (λ taken. ⊤) → MatchOption o ⊤ (GivesRow w old new) → Suits w new
+    by None stays gives = subst (λ (j : JoinData). Suits w j) (sym stays) s.1
+    by (Some taken) stays gives = gives.suits
+
+  pub row-owes : (w : World) → SuitsOne w old → MatchOption row ⊤ (GivesOwed (account_of w old) (account_of w new))
+  row-owes w s = by row (t.row w s.1) where
+    by : (o : Option Places) → MatchOption o ⊤ (GivesRow w old new) → MatchOption o ⊤ (GivesOwed (account_of w old) (account_of w new))
+    by None gives = tt
+    by (Some taken) gives = record { owed = gives.owed; left = turned _ _ gives.left; out = subst (λ (l : List (ℕ × RoundData)). IsPermutation (pairs_in (out w old)) (pairs_in l)) (sym gives.out) (IsPermutation-refl (pairs_in (out w old))) }
+
+  pub row-sizes : (sizes : Sizes) → KeepsSizes sizes old → KeepsSizes sizes new
+  row-sizes sizes k = by row t.stays t.gives where
+    by : (o : Option Places) → MatchOption o (new ≡ old) (λ taken. ⊤) → MatchOption o ⊤ (GivesWaiting old new) → KeepsSizes sizes new
+    by None stays gives = subst (λ (j : JoinData). KeepsSizes sizes j) (sym stays) k
+    by (Some taken) stays gives = record {
+      small = subst (λ (m : ℕ). IsKeptSmall sizes.patterns m new) (sym t.kept.1) (t.small sizes.patterns old.longest k.small);
+      window = within new.window old.window sizes.window (ap (λ (j : JoinData). j.window) gives.done) k.window;
+    }

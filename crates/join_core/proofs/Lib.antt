@@ -3,6 +3,7 @@ pub mod Over
 pub mod Opened
 pub mod Pages
 pub mod Replacing
+pub mod TakenRow
 pub mod Turns
 pub mod Taken
 pub mod Outs

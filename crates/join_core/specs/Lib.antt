@@ -11,3 +11,5 @@ pub mod Sound
 pub mod Ones
 pub mod JoinAccounts
 pub mod JoinLaws
+pub mod TakenRows
+pub mod NewJoins

@@ -1,18 +1,16 @@
 // The join over the pages of one server.
-ghost use Rattle.std.specs.Prelude.{ℕ, ◌≡◌, ◌+◌, ◌-◌, ◌*◌, ◌<◌, ◌≤◌, ◌^◌, ◌↔◌, List, [], length, min, None, Ok, IfOk, OnErr, MatchOption, IsTrue, ⊤};
+ghost use Rattle.std.specs.Prelude.{ℕ, ◌≡◌, ◌+◌, ◌-◌, ◌*◌, ◌<◌, ◌≤◌, ◌^◌, ◌↔◌, length, min, None, Ok, IfOk, OnErr, IsTrue};
 ghost use Rattle.std.specs.List.{count_by};
-ghost use Rattle.tpf_base.specs.Addresses.{Address};
-ghost use Rattle.request_plan.specs.Worlds.{World, IsWorld, HasForms};
-ghost use Rattle.bgp_core.specs.Solutions.{no_names_bound};
-ghost use Rattle.request_plan.specs.Beginnings.{terms_of};
+ghost use Rattle.request_plan.specs.Worlds.{World};
 ghost use Rattle.join_core.specs.Events.{works};
-ghost use Rattle.request_plan.specs.Rounds.{FormsAtHome};
 ghost use Rattle.request_plan.specs.Evaluations.{Terms, AsksAtHome, NextAtHome};
 ghost use Rattle.join_core.specs.Sound.{KeepsTo, IsKeptSmall};
-ghost use Rattle.join_core.specs.Joins.{nodes, Suits, Begins, Opens, IsTrueFor, GivesRow, tickets_out, with_longest};
-ghost use Rattle.join_core.specs.Outcomes.{AskDone, AskNumbered, NothingToAsk, AnswerDone, AnswerNumbered, AnswerTakes, GivesWaiting, WaitsMore, LongestAfter, IsStranger};
+ghost use Rattle.join_core.specs.Joins.{nodes, Suits, IsTrueFor, with_longest};
+ghost use Rattle.join_core.specs.Outcomes.{AskDone, AskNumbered, NothingToAsk, AnswerDone, AnswerNumbered, AnswerTakes, WaitsMore, LongestAfter, IsStranger};
 ghost use Rattle.request_plan.specs.JointPages.{joint_page};
 ghost use Rattle.join_core.specs.Ones.{SuitsOne, round_ask, AskStartsOne};
+ghost use Rattle.join_core.specs.NewJoins.{IsNewJoin};
+ghost use Rattle.join_core.specs.TakenRows.{TakesRow};
 ghost use Rattle.join_core.specs.Runs.{IsDone};
 ghost use Rattle.join_core.specs.JoinAccounts.{is_over};
 
@@ -54,17 +52,7 @@ impl Join {
         window: u32,
     ) -> Result<Join, OutOfMemory>
         requires { 1 ≤ window }
-        ensures begins { (w : World) → IsWorld w → HasForms w forms → w.block ≡ 1 →
-            IfOk result (Begins w query.now.patterns (no_names_bound query.now)) }
-        ensures opens { IfOk result (Opens query.now.patterns (no_names_bound query.now)) }
-        ensures forms { IfOk result (λ j. j.forms ≡ forms) }
-        ensures window { IfOk result (λ j. j.window ≡ window) }
-        ensures block { IfOk result (λ j. j.block ≡ 1) }
-        ensures longest { IfOk result (λ j. j.longest ≡ 1) }
-        ensures keeps { (homes : List Address) → FormsAtHome homes forms →
-            IfOk result (KeepsTo (terms_of homes query.now)) }
-        ensures small { IfOk result (IsKeptSmall (length query.now.patterns) 1) }
-        ensures tickets { IfOk result (λ j. (j.tickets ≡ 0) × (tickets_out j ≡ [])) }
+        ensures { IfOk result (IsNewJoin query.now forms window 1) }
     {
         let join = RoundJoin::new(alloc, query, forms, window)?;
         Ok(Join { join })
@@ -83,17 +71,7 @@ impl Join {
         block: BlockSize,
     ) -> Result<Join, OutOfMemory>
         requires { 1 ≤ window }
-        ensures begins { (w : World) → IsWorld w → HasForms w forms → w.block ≡ block →
-            IfOk result (Begins w query.now.patterns (no_names_bound query.now)) }
-        ensures opens { IfOk result (Opens query.now.patterns (no_names_bound query.now)) }
-        ensures forms { IfOk result (λ j. j.forms ≡ forms) }
-        ensures window { IfOk result (λ j. j.window ≡ window) }
-        ensures block { IfOk result (λ j. j.block ≡ block) }
-        ensures longest { IfOk result (λ j. j.longest ≡ 1) }
-        ensures keeps { (homes : List Address) → FormsAtHome homes forms →
-            IfOk result (KeepsTo (terms_of homes query.now)) }
-        ensures small { IfOk result (IsKeptSmall (length query.now.patterns) 1) }
-        ensures tickets { IfOk result (λ j. (j.tickets ≡ 0) × (tickets_out j ≡ [])) }
+        ensures { IfOk result (IsNewJoin query.now forms window block) }
     {
         let join = RoundJoin::in_blocks(alloc, query, forms, window, block)?;
         Ok(Join { join })
@@ -105,6 +83,17 @@ impl Join {
         ensures { result ≡ min (count_by works (nodes self.now.levels)) (2 ^ 64 - 1) }
     {
         self.join.working()
+    }
+
+    /// How many nodes are open; the count stands still at 2^64 - 1. With n patterns, pages of at
+    /// most m triples and blocks of at most b rows they are at most 1 + (n - 1) m b `window`. It
+    /// takes no memory.
+    pub fn open_rows(&self) -> usize
+        ensures value { result ≡ min (length (nodes self.now.levels)) (2 ^ 64 - 1) }
+        ensures small { (n m : ℕ) → IsKeptSmall n m self.now →
+            result ≤ 1 + (n - 1) * ((m * self.now.block) * self.now.window) }
+    {
+        self.join.open_rows()
     }
 
     /// The next page to ask for, if there is one, under a ticket with a new number. A node that was
@@ -175,33 +164,9 @@ impl Join {
     /// Takes a row that waits; `None` exactly where none does, and then nothing changes. It takes
     /// no memory.
     pub fn take_row(&mut self) -> Option<Row>
-        ensures none { MatchOption result (self.old.waiting ≡ []) (λ row. ⊤) }
-        ensures stays { MatchOption result (self.new ≡ self.old) (λ row. ⊤) }
-        ensures gives { MatchOption result ⊤ (GivesWaiting self.old self.new) }
-        ensures row { (w : World) → Suits w self.old →
-            MatchOption result ⊤ (GivesRow w self.old self.new) }
-        ensures tickets { tickets_out self.new ≡ tickets_out self.old }
-        ensures one { MatchOption result ⊤ (λ row.
-            length self.old.waiting ≡ length self.new.waiting + 1) }
-        ensures keeps { (terms : Terms) → KeepsTo terms self.old → KeepsTo terms self.new }
-        ensures width { (terms : Terms) → KeepsTo terms self.old →
-            MatchOption result ⊤ (λ row. length row ≡ terms.width) }
-        ensures small { (n m : ℕ) → IsKeptSmall n m self.old → IsKeptSmall n m self.new }
-        ensures kept { (self.new.tickets ≡ self.old.tickets)
-            × (self.new.longest ≡ self.old.longest) }
+        ensures { TakesRow self.old self.new result }
     {
         self.join.take_row()
-    }
-
-    /// How many nodes are open; the count stands still at 2^64 - 1. With n patterns, pages of at
-    /// most m triples and blocks of at most b rows they are at most 1 + (n - 1) m b `window`. It
-    /// takes no memory.
-    pub fn open_rows(&self) -> usize
-        ensures value { result ≡ min (length (nodes self.now.levels)) (2 ^ 64 - 1) }
-        ensures small { (n m : ℕ) → IsKeptSmall n m self.now →
-            result ≤ 1 + (n - 1) * ((m * self.now.block) * self.now.window) }
-    {
-        self.join.open_rows()
     }
 
     /// Whether no node is open, no ticket is out and no row waits. It takes no memory.

@@ -1,11 +1,12 @@
-use Rattle.std.proofs.Common.{List, length, sym, subst}
+use Rattle.std.proofs.Common.{◌*◌, List, length, ap, sym, subst, ◌∙◌}
 use Rattle.request_plan.specs.Evaluations.{Terms}
 use Rattle.plan_laws.specs.JointWorlds.{joint_world}
 use Rattle.joint_pages.specs.Gatherings.{GatheringData}
 use Rattle.request_plan.specs.Beginnings.{BeginsWith}
-use Rattle.federation.specs.Beginnings.{joint_rows, joint_plan}
-use Rattle.federation.specs.Federations.{SuitsAll, KeepsAll, account_of}
-use Rattle.federation.proofs.Beginning.{fresh-of, fresh-suits, fresh-owes, fresh-keeps}
+use Rattle.bgp_core.specs.declared.pattern.Pattern.{Pattern}
+use Rattle.federation.specs.Beginnings.{joint_rows, joint_plan, most_pages}
+use Rattle.federation.specs.Federations.{SuitsAll, KeepsAll, KeepsSmall, account_of}
+use Rattle.federation.proofs.Beginning.{fresh-of, fresh-suits, fresh-owes, fresh-keeps, fresh-small}
 use Rattle.federation.proofs.evaluation.Federation.new.Goals as goal
 
 pub returns-clause-suits : goal.returns-clause-suits
@@ -27,3 +28,11 @@ pub returns-clause-keeps : goal.returns-clause-keeps
 returns-clause-keeps c = λ homes home.
     let terms : Terms = record { homes = homes; width = length c.args.query.now.names } in
     subst (λ (l : List GatheringData). KeepsAll terms (fresh-of c.in_ok-join.join l c.most_awaited-most.result)) (sym c.new-2.ensures.items) (fresh-keeps terms c.in_ok-join.join c.most_awaited-most.result (c.in_ok-join.ensures.keeps homes home) c.in_ok-join.ensures.tickets.1)
+
+pub returns-clause-small : goal.returns-clause-small
+returns-clause-small c =
+    let patterns = length c.args.query.now.patterns in
+    let servers = length c.args.forms in
+    subst (λ (l : List GatheringData). KeepsSmall (record { patterns = patterns; window = c.args.window * servers }) (fresh-of c.in_ok-join.join l c.most_awaited-most.result)) (sym c.new-2.ensures.items)
+    (fresh-small patterns c.args.window servers c.in_ok-join.join c.most_awaited-most.result c.in_ok-join.ensures.small c.in_ok-join.ensures.longest c.requires.window c.requires.some
+    (c.most_awaited-most.ensures ∙ ap (λ (l : List Pattern). most_pages (length l) c.args.window servers) c.patterns.ensures.value))
