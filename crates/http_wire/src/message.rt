@@ -34,8 +34,8 @@ pub enum NextHead {
     Head(RequestHead),
     /// The status with which the connection ends: 431 for a head with more field lines than
     /// `MOST_FIELDS` of `tpf_base` (64), and for one that together with the empty lines before it has
-    /// more bytes than `HEAD_LIMIT` (4194304); 400 for what is no head of HTTP/1.0 or 1.1, a head of 1.1 without
-    /// exactly one Host field, and a target that begins with neither `/` nor `http://`, or has a `#`
+    /// more bytes than `HEAD_LIMIT` (4194304); 400 for what is no head of HTTP/1.0 or 1.1, a head of
+    /// 1.1 without exactly one Host field, and a target that begins with neither `/` nor `http://`, or has a `#`
     /// or a byte that is no visible ASCII (RFC 9110, section 15.5.1; RFC 9112, section 3.2; RFC 6585,
     /// section 5).
     Bad(u16),

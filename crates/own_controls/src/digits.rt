@@ -16,7 +16,7 @@ fn is_plain(digits: &[u8]) -> bool
     }
 }
 
-/// The number that these digits are written for: at most 19, with no 0 in front.
+/// The number that these digits are written for: at most `MOST_DIGITS`, with no 0 in front.
 pub(crate) fn number(digits: &str) -> Option<u64>
     ensures digits { IfSome result (λ n. decimal_text n ≡ digits.now) }
     ensures few { IfSome result (λ n. n ≤ HIGHEST_NUMBER) }

@@ -1,4 +1,4 @@
--- Numbers of up to 19 digits.
+-- Numbers of up to MOST_DIGITS digits.
 use Rattle.std.proofs.Common.{ℕ, ◌≡◌, ◌^◌, ◌<◌, ◌≤◌, true, ◌&&◌, List, nat_le, length, arith, ◌∙◌, Result, Ok}
 use Rattle.std.specs.List.{list_all}
 use Rattle.std.specs.Char.{is_ascii_digit}
@@ -9,22 +9,23 @@ use Rattle.std.proofs.lemmas.Bool.Decides.{nat_tests}
 use Rattle.std.proofs.lemmas.Int.Digits.{digits_value-lt}
 use Rattle.std.proofs.Math.Nat.{pow-le-pow_right}
 use Rattle.std.proofs.lemmas.Bool.{and_parts}
+use Rattle.tpf_base.specs.declared.limits.TheConstants.{MOST_DIGITS}
 use Rattle.list_laws.proofs.Bytes.{digits_all, digits_are}
 use Rattle.page_controls.specs.Controls.{is_count_text}
 
-parts : (ds : List ℕ) → is_count_text ds ≡ true → (1 ≤ length ds) × (length ds ≤ 19) × (list_all is_ascii_digit ds ≡ true)
+parts : (ds : List ℕ) → is_count_text ds ≡ true → (1 ≤ length ds) × (length ds ≤ MOST_DIGITS) × (list_all is_ascii_digit ds ≡ true)
 parts ds h =
-    let p = and_parts (nat_le 1 (length ds)) (nat_le (length ds) 19 && list_all is_ascii_digit ds) h in
-    let q = and_parts (nat_le (length ds) 19) (list_all is_ascii_digit ds) p.1 in
+    let p = and_parts (nat_le 1 (length ds)) (nat_le (length ds) MOST_DIGITS && list_all is_ascii_digit ds) h in
+    let q = and_parts (nat_le (length ds) MOST_DIGITS) (list_all is_ascii_digit ds) p.1 in
     let some = p.0 in
     let few = q.0 in
     (grind (arith, nat_tests, some), grind (arith, nat_tests, few), q.1)
 
-value_small : (ds : List ℕ) → is_count_text ds ≡ true → digits_value 10 ds < 10 ^ 19
+value_small : (ds : List ℕ) → is_count_text ds ≡ true → digits_value 10 ds < 10 ^ MOST_DIGITS
 value_small ds h =
     let p = parts ds h in
     let a : digits_value 10 ds < 10 ^ length ds = digits_value-lt 10 ds (digits_all ds p.2) in
-    let b : 10 ^ length ds ≤ 10 ^ 19 = pow-le-pow_right (omega arith) p.1 in
+    let b : 10 ^ length ds ≤ 10 ^ MOST_DIGITS = pow-le-pow_right (omega arith) p.1 in
     omega (arith, a, b)
 
 -- what `parse` gives of such a text

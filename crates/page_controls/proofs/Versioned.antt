@@ -72,7 +72,7 @@ module _ (quads : List Quad) (topic : List ℕ) (triples : List Triple) (are : A
       let word : t.predicate ≡ version_info = term_same t.predicate version_info parts.0 in
       ((t.subject, (are.members t.subject version_info t.object).0 (subst (λ (p : Term). Contains triples (triple t.subject p t.object)) word there)), (n, number))
 
-  -- a literal of 1 to 19 digits is a number
+  -- a literal of 1 to MOST_DIGITS digits is a number
   some_number : (o : Term) → is_number_term o ≡ true → (n : ℕ) × IsNumber o n
   some_number (Iri text) is = absurd cc
   some_number (Blank label) is = absurd cc

@@ -8,6 +8,7 @@ use Rattle.rdf_terms.specs.declared.term.Term.{Term}
 use Rattle.rdf_terms.specs.declared.term.Term.TheVariants.{Iri, Blank, Literal}
 use Rattle.rdf_terms.specs.declared.term.Quad.{Quad}
 use Rattle.rdf_terms.specs.Order.{term_order}
+use Rattle.tpf_base.specs.declared.limits.TheConstants.{MOST_DIGITS}
 use Rattle.tpf_base.specs.Addresses.{Address, IsAddress, authority_of}
 use Rattle.template_fill.specs.Templates.{Template, read_template, has_name, expansion}
 use Rattle.template_fill.specs.declared.form.Form.{Form}
@@ -58,11 +59,11 @@ IsCountObject quads topic object =
     Says quads topic (Iri topic) total_items object
     ⊎ (((other : Term) → Says quads topic (Iri topic) total_items other → ⊥) × Says quads topic (Iri topic) void_triples object)
 
--- 1 to 19 ASCII digits
+-- 1 to MOST_DIGITS ASCII digits
 abbrev pub is_count_text : List ℕ → Bool
-is_count_text form = nat_le 1 (length form) && (nat_le (length form) 19 && list_all is_ascii_digit form)
+is_count_text form = nat_le 1 (length form) && (nat_le (length form) MOST_DIGITS && list_all is_ascii_digit form)
 
--- a literal whose form is the number, in 1 to 19 digits
+-- a literal whose form is the number, in 1 to MOST_DIGITS digits
 abbrev pub IsNumber : Term → ℕ → Type 0
 IsNumber (Iri text) n = ⊥
 IsNumber (Blank label) n = ⊥
@@ -146,7 +147,7 @@ HasBadTemplate texts = (template : Template) → read_template texts.template �
 
 -- ---- the version
 
--- a literal of 1 to 19 digits that something has as its version
+-- a literal of 1 to MOST_DIGITS digits that something has as its version
 abbrev pub IsVersionObject : List Quad → List ℕ → Term → Type 0
 IsVersionObject quads topic object = ((subject : Term) × Says quads topic subject version_info object) × ((n : ℕ) × IsNumber object n)
 

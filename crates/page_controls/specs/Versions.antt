@@ -7,7 +7,7 @@ use Rattle.rdf_terms.specs.Same.{term_eq}
 use Rattle.page_controls.specs.Vocabulary.{version_info}
 use Rattle.page_controls.specs.Controls.{is_count_text}
 
--- a literal of 1 to 19 digits
+-- a literal of 1 to MOST_DIGITS digits
 abbrev pub is_number_term : Term → Bool
 is_number_term (Iri text) = false
 is_number_term (Blank label) = false

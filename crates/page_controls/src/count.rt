@@ -18,6 +18,7 @@ use crate::vocabulary::{total_items, void_triples};
 use fragment_page::PageFault;
 use rdf_terms::{Term, Triple};
 use std::alloc::Global;
+use tpf_base::MOST_DIGITS;
 
 fn are_digits(bytes: &[u8]) -> bool
     ensures { result ≡ list_all is_ascii_digit bytes.now }
@@ -28,10 +29,10 @@ fn are_digits(bytes: &[u8]) -> bool
 pub(crate) fn is_count_text(digits: &[u8]) -> bool
     ensures { result ≡ is_count_text digits.now }
 {
-    digits.len() >= 1 && (digits.len() <= 19 && are_digits(digits))
+    digits.len() >= 1 && (digits.len() <= MOST_DIGITS && are_digits(digits))
 }
 
-/// The number that up to 19 digits write.
+/// The number that up to `MOST_DIGITS` digits write.
 fn value_of(digits: &str) -> Option<u64>
     requires { is_count_text digits.now ≡ true }
     ensures { result ≡ Some (digits_value 10 digits.now) }
@@ -39,7 +40,7 @@ fn value_of(digits: &str) -> Option<u64>
     digits.parse::<u64>().ok()
 }
 
-/// The number that a text of 1 to 19 digits writes; no other text is one.
+/// The number that a text of 1 to `MOST_DIGITS` (19) digits writes; no other text is one.
 pub fn number_of_digits(digits: &str) -> Option<u64>
     ensures { MatchOption result (is_count_text digits.now ≡ false)
         (λ n. (is_count_text digits.now ≡ true) × (n ≡ digits_value 10 digits.now)) }
@@ -51,7 +52,7 @@ pub fn number_of_digits(digits: &str) -> Option<u64>
     }
 }
 
-/// The number that a literal of 1 to 19 digits is.
+/// The number that a literal of 1 to `MOST_DIGITS` digits is.
 pub(crate) fn number(term: &Term) -> Option<u64>
     ensures { MatchOption result ((n : ℕ) → IsNumber term.now n → ⊥) (λ n. IsNumber term.now n) }
 {

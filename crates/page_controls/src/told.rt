@@ -21,7 +21,8 @@ use std::alloc::Global;
 use template_fill::{Form, WebAddress};
 
 /// What the controls tell: the number of triples that the fragment is said to have, the form of the server, the address
-/// of the next page, if there is one, and the version of the data, where exactly one is said, in 1 to 19 digits.
+/// of the next page, if there is one, and the version of the data, where exactly one is said, in 1 to `MOST_DIGITS`
+/// digits (19).
 #[derive(Drop)]
 pub struct Told {
     pub count: u64,

@@ -23,7 +23,7 @@ fn is_number_term(term: &Term) -> bool
     }
 }
 
-/// Whether a triple gives something a version: a literal of 1 to 19 digits by owl:versionInfo.
+/// Whether a triple gives something a version: a literal of 1 to `MOST_DIGITS` digits by owl:versionInfo.
 fn is_version(triple: &Triple, word: &Term) -> bool
     requires { word.now ≡ version_info }
     ensures { result ≡ is_version triple.now }

@@ -9,6 +9,7 @@ use Rattle.std.proofs.lemmas.Str.{encodes-chars, length-encode, len_utf8_bounds,
 use Rattle.rdf_terms.specs.declared.term.Term.{Term}
 use Rattle.rdf_terms.specs.declared.term.Term.TheVariants as terms
 use Rattle.rdf_terms.specs.declared.term.Kind.TheVariants.{Plain, Typed, Tagged}
+use Rattle.rdf_terms.specs.declared.limits.TheConstants.{MOST_UNWRITTEN}
 use Rattle.rdf_terms.specs.Iri.{is_iri}
 use Rattle.rdf_terms.specs.Datatype.{is_lang_string, is_xsd_string}
 use Rattle.rdf_terms.specs.Sizes.{term_size}
@@ -313,7 +314,7 @@ false_long = refl
 
 abbrev ShortTerm : Option Term → Type 0
 ShortTerm None = Unit {0}
-ShortTerm (Some t) = term_size t ≤ LONGEST_QUERY + 60
+ShortTerm (Some t) = term_size t ≤ LONGEST_QUERY + MOST_UNWRITTEN
 
 term_short : (iri : List ℕ → Option (List ℕ)) (b : ℕ) → Bound iri b → (v : Value) (ws : List Word) → b + (weight v + total ws) ≤ LONGEST_QUERY → ShortTerm (term_of iri v ws)
 term_short iri b h (values.Iri t) ws f = omega (arith, f, iri_size t)

@@ -1,6 +1,7 @@
 -- Bounds of the fixed terms of a query that is read.
 use Rattle.std.specs.Prelude.{ℕ, ◌+◌, ◌≤◌, List, ⊤}
 use Rattle.std.specs.List.{AllByRecursion}
+use Rattle.rdf_terms.specs.declared.limits.TheConstants.{MOST_UNWRITTEN}
 use Rattle.rdf_terms.specs.Sizes.{term_size}
 use Rattle.bgp_core.specs.declared.pattern.Part.{Part}
 use Rattle.bgp_core.specs.declared.pattern.Part.TheVariants as parts
@@ -9,9 +10,9 @@ use Rattle.bgp_core.specs.Queries.{QueryData}
 use Rattle.query_tokens.specs.declared.piece.TheConstants.{LONGEST_QUERY}
 use Rattle.pattern_parser.specs.Queries.{ReadsQuery}
 
--- a fixed part's texts have at most LONGEST_QUERY + 60 bytes
+-- a fixed part's texts have at most LONGEST_QUERY + MOST_UNWRITTEN bytes
 abbrev pub IsShortPart : Part → Type 0
-IsShortPart (parts.Fixed t) = term_size t ≤ LONGEST_QUERY + 60
+IsShortPart (parts.Fixed t) = term_size t ≤ LONGEST_QUERY + MOST_UNWRITTEN
 IsShortPart (parts.Name n) = ⊤
 
 -- each part of the pattern is short
@@ -20,6 +21,6 @@ pub record IsShortPattern (p : Pattern) : Type 0 where
   pub predicate : IsShortPart p.predicate
   pub object : IsShortPart p.object
 
--- in a query that is read the texts of each fixed term have at most 60 bytes more than a query's text may have
+-- in a query that is read the texts of each fixed term have at most MOST_UNWRITTEN bytes more than a query's text may have
 abbrev pub TermsAreShort : Type 0
 TermsAreShort = (text : List ℕ) (q : QueryData) → ReadsQuery text q → AllByRecursion IsShortPattern q.patterns

@@ -6,7 +6,7 @@ use Rattle.tpf_base.specs.Addresses.{Address, address_text, authority_of, target
 use Rattle.tpf_base.specs.Marks.{Mark, version_at}
 use Rattle.rdf_terms.specs.declared.term.Term.{Term}
 use Rattle.rdf_terms.specs.declared.term.Triple.{Triple}
-use Rattle.rdf_terms.specs.declared.limits.TheConstants.{LONGEST_TERM, MOST_ROWS}
+use Rattle.rdf_terms.specs.declared.limits.TheConstants.{LONGEST_TERM, MOST_ROWS, MOST_UNWRITTEN}
 use Rattle.rdf_terms.specs.Canon.{canonical_term}
 use Rattle.rdf_terms.specs.Sizes.{term_size}
 use Rattle.triple_table.specs.Served.{terms_of}
@@ -40,9 +40,9 @@ pub record AreServable (triples : List Triple) : Type 0 where
   pub terms : (term : Term) → Contains (terms_of triples) term → length (canonical_term term) ≤ LONGEST_TERM
   pub few : length triples ≤ HIGHEST_NUMBER
 
--- a fixed part has texts of at most 60 bytes more than LONGEST_TERM, as in each query that is read
+-- a fixed part has texts of at most MOST_UNWRITTEN bytes more than LONGEST_TERM, as in each query that is read
 abbrev pub IsAskablePart : Part → Type 0
-IsAskablePart (Fixed term) = term_size term ≤ LONGEST_TERM + 60
+IsAskablePart (Fixed term) = term_size term ≤ LONGEST_TERM + MOST_UNWRITTEN
 IsAskablePart (Name n) = ⊤
 
 -- a pattern of valid terms that are so short

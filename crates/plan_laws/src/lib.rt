@@ -27,13 +27,13 @@ use template_fill::{
 };
 
 /// Over data whose terms have canonical texts of at most `LONGEST_TERM` bytes (262144), and for
-/// patterns whose fixed terms have texts of at most 60 bytes more, a server answers each address of
-/// a plan with the status 200, and the body is read as a page of that address (`plan`): the
-/// addresses that stand in its metadata are short enough. It holds row by row and in blocks of at
-/// most `MOST_ROWS` rows (64), whether the server reads the rows of an address or passes them over.
-/// So it does for its own base (`base`), and for each other address of its authority that it
-/// answers so at all (`start`). There are at most `HIGHEST_NUMBER` triples (of 19 digits), and the base and the
-/// start have at most `LONGEST_START` bytes (65536).
+/// patterns whose fixed terms have texts of at most `MOST_UNWRITTEN` bytes (60) more, a server
+/// answers each address of a plan with the status 200, and the body is read as a page of that
+/// address (`plan`): the addresses that stand in its metadata are short enough. It holds row by row
+/// and in blocks of at most `MOST_ROWS` rows (64), whether the server reads the rows of an address
+/// or passes them over. So it does for its own base (`base`), and for each other address of its
+/// authority that it answers so at all (`start`). There are at most `HIGHEST_NUMBER` triples (of
+/// `MOST_DIGITS` digits, 19), and the base and the start have at most `LONGEST_START` bytes (65536).
 pub fn plans_are_read()
     ensures plan { PlansAreRead }
     ensures base { BasesAreRead }

@@ -36,7 +36,9 @@ pub use laws::{
     no_rows_select_all, order_is_total, order_tells_apart, selection_is_one, triple_order_is_total,
     triple_order_tells_apart,
 };
-pub use limits::{LONGEST_LABEL, LONGEST_READ, LONGEST_TERM, MOST_ROWS, MOST_TRIPLES};
+pub use limits::{
+    LONGEST_LABEL, LONGEST_READ, LONGEST_TERM, MOST_ROWS, MOST_TRIPLES, MOST_UNWRITTEN,
+};
 pub use slots::{Slot, Slots};
 pub use tag::{Tag, is_tag, lowered};
 pub use term::{Kind, Quad, Term, TermFault, Triple};

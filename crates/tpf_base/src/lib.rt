@@ -48,7 +48,7 @@ pub use fault::Fault;
 pub use laws::numbers_read_back;
 pub use limits::{
     ENOUGH_PENDING, HEAD_LIMIT, HEADS_LIMIT, HIGHEST_NUMBER, HIGHEST_PORT, LINE_LIMIT,
-    MOST_CHUNK_DIGITS, MOST_FIELDS, MOST_LINKS, PADDING_LIMIT,
+    MOST_CHUNK_DIGITS, MOST_DIGITS, MOST_FIELDS, MOST_LINKS, PADDING_LIMIT,
 };
 pub use mem_shelf::MemShelf;
 pub use mem_sink::MemSink;

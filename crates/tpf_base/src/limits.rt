@@ -26,8 +26,12 @@ pub const MOST_FIELDS: usize = 64;
 /// The most hexadecimal digits of a chunk's size, zeros in front and all.
 pub const MOST_CHUNK_DIGITS: usize = 15;
 
-/// The highest number of nineteen digits, 9999999999999999999: of a version, of a page's count of
-/// triples, of a seed. Each number of nineteen digits fits 64 bits.
+/// The most digits of a number that a page gives, zeros in front and all: its count of triples and
+/// the version of the data. Each number of so many digits fits 64 bits.
+pub const MOST_DIGITS: usize = 19;
+
+/// The highest number of `MOST_DIGITS` digits, 9999999999999999999: of a version, of a page's count of
+/// triples, of a seed.
 pub const HIGHEST_NUMBER: u64 = 9999999999999999999;
 
 /// The most connections that a client keeps open.
