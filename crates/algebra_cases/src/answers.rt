@@ -18,7 +18,7 @@ fn row_text(alloc: Global, shown: &Query, row: &Row) -> Result<String, CaseFault
 }
 
 /// The rows of a query in the order of their bytes, with `; ` between each two.
-fn rows_text(alloc: Global, shown: &Query, rows: &[Row]) -> Result<String, CaseFault> {
+pub fn rows_text(alloc: Global, shown: &Query, rows: &[Row]) -> Result<String, CaseFault> {
     let mut texts = Vec::new(alloc);
     for row in rows {
         texts.push(row_text(alloc, shown, row)?)?;

@@ -67,10 +67,11 @@ pub fn blocks_of(alloc: Global, names: usize, texts: &[String]) -> Result<VecDeq
     Ok(blocks)
 }
 
-/// The word of a name in a row, or `-`.
+/// The word of a name in a row, or the form of its literal, or `-`.
 pub fn word_of(row: &Row, name: u32) -> &str {
     match row.term(name) {
         Some(Term::Iri(iri)) => iri.as_str().strip_prefix(FRONT).unwrap_or("?"),
+        Some(Term::Literal { form, .. }) => form.as_str(),
         _ => "-",
     }
 }

@@ -1,6 +1,6 @@
-//! The tests from which the first doc comments of the libraries of terms, texts and queries take their examples, and
-//! solutions, whose cases are a table. `page_tests` has those of pages. The cases of these libraries are rows of data of
-//! the programs whose names end with `_cases`.
+//! The tests from which the first doc comments of the libraries of terms, texts and queries take their examples.
+//! `page_tests` has those of pages. The cases of these libraries are rows of data of the programs whose names end with
+//! `_cases`.
 #![tactic(auto)]
 
 #[cfg(test)]
@@ -9,7 +9,5 @@ mod generated;
 mod queries;
 #[cfg(test)]
 mod results;
-#[cfg(test)]
-mod solving;
 #[cfg(test)]
 mod texts;
