@@ -1,5 +1,5 @@
 // The rows of a file.
-ghost use Rattle.std.specs.Prelude.{◌≡◌, ◌+◌, ℕ, length, filter, if◌then◌else◌, IfOk, OnOk};
+ghost use Rattle.std.specs.Prelude.{◌≡◌, ◌+◌, length, filter, if◌then◌else◌, IfOk, OnOk};
 ghost use Rattle.case_rows.specs.Rows.{begins_row};
 
 use std::alloc::{AllocError, Global};

@@ -1,6 +1,5 @@
 // A connection that gives back what it gets.
-ghost use Rattle.std.specs.Prelude.{ℕ, ◌≡◌, ◌≤◌, [], length, OnOk, Err, refl};
-ghost use Rattle.connections.specs.Kinds.{Reloads, Feeds, Fills, Takes};
+ghost use Rattle.std.specs.Prelude.{◌≡◌, Err, refl};
 ghost use Rattle.echo_server.specs.Echoes.{echoes};
 
 use crate::EchoServer;

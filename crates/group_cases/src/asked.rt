@@ -1,5 +1,5 @@
 // A query with groups, and what bounds its call.
-ghost use Rattle.std.specs.Prelude.{◌≡◌, ◌≤◌};
+ghost use Rattle.std.specs.Prelude.{◌≡◌};
 ghost use Rattle.tpf_base.specs.declared.usual.TheConstants.{USUAL_LINKS, USUAL_WINDOW};
 
 use crate::outcomes::{text_of, told_of};

@@ -2,7 +2,6 @@
 ghost use Rattle.std.specs.Prelude.{◌≡◌, ◌≤◌, length};
 ghost use Rattle.tpf_base.specs.Causes.{counted};
 
-use std::alloc::Global;
 use tpf_base::{Fault, Names, Shelf};
 
 /// A shelf with one file, `d`, which has the next of these contents each time that it is found. It can't be found once

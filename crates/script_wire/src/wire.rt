@@ -1,5 +1,5 @@
 // A wire in memory whose links do what scripts say.
-ghost use Rattle.std.specs.Prelude.{ℕ, ◌≡◌, ◌≢◌, ◌+◌, ◌<◌, ◌≤◌, ◌==◌, ◌||◌, nat_le, [], ◌∷◌, ◌++◌, length, min, set, get_or, slice_get, Option, Some, None, Ok, Err, true, false, IfOk, OnOk, OnErr, IfSome, IfNone, IsErrOf, is_err, ◌↔◌, if◌then◌else◌};
+ghost use Rattle.std.specs.Prelude.{ℕ, ◌≡◌, ◌≢◌, ◌+◌, ◌<◌, ◌≤◌, ◌==◌, ◌||◌, nat_le, [], ◌∷◌, ◌++◌, length, min, set, get_or, slice_get, Option, Some, None, Ok, Err, true, false, IfOk, OnOk, OnErr, IfSome, IfNone, IsErrOf, is_err, ◌↔◌};
 ghost use Rattle.tpf_base.specs.Causes.{HasCause, counted};
 ghost use Rattle.tpf_base.specs.Failures.{no_calls};
 ghost use Rattle.tpf_base.specs.Links.{listens, closed_door};

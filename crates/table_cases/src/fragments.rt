@@ -1,5 +1,5 @@
 // Fragments and their pages.
-ghost use Rattle.std.specs.Prelude.{◌≡◌, ◌<◌, ℕ};
+ghost use Rattle.std.specs.Prelude.{◌≡◌, ◌<◌};
 
 use crate::tables::table_of;
 use case_rows::{Case, CaseFault, numbers_text, word_text};

@@ -1,5 +1,5 @@
 // The triples that are served, and their table.
-ghost use Rattle.std.specs.Prelude.{◌≡◌, ℕ, ◌+◌, ◌<◌, ◌≤◌, ◌^◌, List, All, IfOk, length};
+ghost use Rattle.std.specs.Prelude.{◌≡◌, ◌+◌, ◌<◌, ◌≤◌, ◌^◌, All, IfOk, length};
 ghost use Rattle.rdf_terms.specs.Triples.{IsRdfQuad};
 ghost use Rattle.tpf_base.specs.Addresses.{IsAuthority};
 ghost use Rattle.triple_table.specs.Stored.{IsIdPattern, IsRange, triples_in};
