@@ -132,20 +132,29 @@ fn length_read(
     Ok(read_file(alloc, &mut files, name, most).map(|bytes| bytes.len()))
 }
 
+/// A file, how long it may be at most, and how many bytes are read, or why it is refused.
+static FILES: [(&str, usize, Result<usize, FileFault>); 6] = [
+    ("empty", 0, Ok(0)),
+    ("a", 3, Ok(3)),
+    ("a", 2, Err(FileFault::TooLong)),
+    ("long", 200_000, Ok(200_000)),
+    ("long", 199_999, Err(FileFault::TooLong)),
+    ("b", 9, Err(FileFault::Failed)),
+];
+
+/// Whether each file is read, or refused, as its row wants.
+fn are_read(alloc: Global, rows: &[(&str, usize, Result<usize, FileFault>)]) -> Result<bool, Fail> {
+    for (name, most, want) in rows {
+        if length_read(alloc, Failing::Never, name, *most)? != *want {
+            return Ok(false);
+        }
+    }
+    Ok(true)
+}
+
 #[test]
 fn a_file_is_read_whole_or_refused(rt: HostRuntime) -> Result<(), Fail> {
-    let table = [
-        ("empty", 0, Ok(0)),
-        ("a", 3, Ok(3)),
-        ("a", 2, Err(FileFault::TooLong)),
-        ("long", 200_000, Ok(200_000)),
-        ("long", 199_999, Err(FileFault::TooLong)),
-        ("b", 9, Err(FileFault::Failed)),
-    ];
-    for (name, most, want) in table {
-        let got = length_read(rt.alloc(), Failing::Never, name, most)?;
-        assert_eq!(rt; got, want, "{name} of at most {most}");
-    }
+    assert!(rt; are_read(rt.alloc(), FILES.as_slice())?);
     Ok(())
 }
 

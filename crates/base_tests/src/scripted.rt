@@ -74,24 +74,36 @@ fn call_on<R: Abort>(
     call_all(rt, alloc, &mut wire, calls)
 }
 
+/// Pieces, whether the link ends behind them, the room of each receive, and what seven receives give.
+static PIECES: [(&[&str], bool, usize, &str); 6] = [
+    (&["abc", "de"], true, 8, "- abc - de . . . "),
+    (&["abc", "de"], false, 8, "- abc - de - - - "),
+    (&["abc", "de"], true, 2, "- ab c - de . . "),
+    (&["abc", "de"], true, 1, "- a b c - d e "),
+    (&["", "de"], true, 8, "- - - de . . . "),
+    (&[], true, 8, ". . . . . . . "),
+];
+
+/// Fails where seven receives into so much room do not give what is wanted.
+fn hear_seven<R: Abort>(
+    rt: &R,
+    alloc: Global,
+    link: Link,
+    room: usize,
+    want: &str,
+) -> Result<(), Fail> {
+    let hear = Call::Receive {
+        link: 0,
+        room,
+        times: 7,
+    };
+    call_on(rt, alloc, &[link], &[(Call::Dial, "0"), (hear, want)])
+}
+
 #[test]
 fn pieces_come_one_by_one_after_a_stall_each(rt: HostRuntime) -> Result<(), Fail> {
-    let table: [(&[&str], bool, usize, &str); 6] = [
-        (&["abc", "de"], true, 8, "- abc - de . . . "),
-        (&["abc", "de"], false, 8, "- abc - de - - - "),
-        (&["abc", "de"], true, 2, "- ab c - de . . "),
-        (&["abc", "de"], true, 1, "- a b c - d e "),
-        (&["", "de"], true, 8, "- - - de . . . "),
-        (&[], true, 8, ". . . . . . . "),
-    ];
-    for (pieces, ends, room, want) in table {
-        let hear = Call::Receive {
-            link: 0,
-            room,
-            times: 7,
-        };
-        let calls = [(Call::Dial, "0"), (hear, want)];
-        call_on(&rt, rt.alloc(), &[(0, pieces, ends, 65536)], &calls)?;
+    for (pieces, ends, room, want) in &PIECES {
+        hear_seven(&rt, rt.alloc(), (0, *pieces, *ends, 65536), *room, want)?;
     }
     Ok(())
 }
@@ -103,7 +115,7 @@ const TWO: Call = Call::Receive {
     times: 2,
 };
 
-const SPEAKING: [(Call, &str); 10] = [
+static SPEAKING: [(Call, &str); 10] = [
     (Call::Dial, "0"),
     (Call::Dial, "1"),
     (TWO, "- - "),
@@ -120,24 +132,26 @@ const SPEAKING: [(Call, &str); 10] = [
 #[test]
 fn the_first_piece_comes_once_enough_links_have_spoken(rt: HostRuntime) -> Result<(), Fail> {
     let links: [Link; 2] = [(2, &["abc"], true, 65536), (0, &["abc"], true, 65536)];
-    call_on(&rt, rt.alloc(), &links, &SPEAKING)
+    call_on(&rt, rt.alloc(), &links, SPEAKING.as_slice())
 }
+
+/// How much a send takes at most, what one of six bytes gives, and what was sent then.
+static SENDS: [(usize, &str, &str); 4] = [
+    (0, "-", ""),
+    (1, "1", "a"),
+    (4, "4", "abcd"),
+    (65536, "6", "abcdef"),
+];
 
 #[test]
 fn a_send_takes_at_most_what_the_script_says(rt: HostRuntime) -> Result<(), Fail> {
-    let table = [
-        (0, "-", ""),
-        (1, "1", "a"),
-        (4, "4", "abcd"),
-        (65536, "6", "abcdef"),
-    ];
-    for (most, want, sent) in table {
+    for (most, want, sent) in &SENDS {
         let calls = [
             (Call::Dial, "0"),
-            (Call::Send(0, "abcdef"), want),
-            (Call::Sent(0), sent),
+            (Call::Send(0, "abcdef"), *want),
+            (Call::Sent(0), *sent),
         ];
-        call_on(&rt, rt.alloc(), &[(0, &[], true, most)], &calls)?;
+        call_on(&rt, rt.alloc(), &[(0, &[], true, *most)], &calls)?;
     }
     Ok(())
 }
@@ -155,7 +169,7 @@ const ONE_MORE: Call = Call::Receive {
     times: 1,
 };
 
-const WAITING: [(Call, &str); 20] = [
+static WAITING: [(Call, &str); 20] = [
     // No link, and the door is closed.
     (Call::Wait, "failed"),
     (Call::Listen, "done"),
@@ -191,7 +205,7 @@ fn a_wait_answers_what_can_move(rt: HostRuntime) -> Result<(), Fail> {
         (0, &["a"], true, 65536),
         (0, &[], false, 65536),
     ];
-    call_on(&rt, rt.alloc(), &links, &WAITING)
+    call_on(&rt, rt.alloc(), &links, WAITING.as_slice())
 }
 
 /// A receive on the first link.
@@ -266,19 +280,21 @@ fn failing_at(alloc: Global, call: u64) -> Result<Failing, AllocError> {
     Ok(Failing::At(Vec::from_slice(alloc, &[call])?))
 }
 
+/// The number of the call that fails, and how the calls end.
+static NUMBERED: [(u64, &str); 6] = [
+    (1, "Flwa"),
+    (2, "dFs- w"),
+    (3, "dlF- wa"),
+    (4, "dlsF wa"),
+    (5, "dls- Fa"),
+    (6, "dls- wF"),
+];
+
 #[test]
 fn calls_fail_by_their_number(rt: HostRuntime) -> Result<(), Fail> {
-    let rows = [
-        (1, "Flwa"),
-        (2, "dFs- w"),
-        (3, "dlF- wa"),
-        (4, "dlsF wa"),
-        (5, "dls- Fa"),
-        (6, "dls- wF"),
-    ];
-    for (number, want) in rows {
-        let got = six_calls(rt.alloc(), failing_at(rt.alloc(), number)?)?;
-        assert_eq!(rt; got.as_str(), want, "call {number}");
+    for (number, want) in &NUMBERED {
+        let failing = failing_at(rt.alloc(), *number)?;
+        assert!(rt; end_so(rt.alloc(), failing, want)?, "call {number}");
     }
     Ok(())
 }

@@ -1,5 +1,4 @@
 // The standard streams, over a runtime in memory.
-ghost use Rattle.std.specs.Prelude.{◌≤◌, length, IfOk};
 
 use std::cell::RefCell;
 use std::io;

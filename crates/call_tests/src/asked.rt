@@ -2,6 +2,7 @@
 ghost use Rattle.std.specs.Prelude.{◌≡◌};
 ghost use Rattle.tpf_client.specs.Bounds.{SuitsCalls};
 
+use bgp_core::Query;
 use control_reader::PageFault;
 use http_wire::ReplyFault;
 use pattern_parser::parse;
@@ -65,39 +66,51 @@ fn fault_name(fault: &ClientFault) -> &'static str {
     }
 }
 
-/// A fault as text: its name, and the numbers that it has, a `Cut` that of the bytes that it keeps.
-fn fault_told(alloc: Global, fault: &ClientFault) -> Result<String, Fail> {
-    let name = fault_name(fault);
+/// Adds a number behind a space.
+fn push_number(out: &mut String, number: u64) -> Result<(), Fail> {
+    write!(out, " {number}")?;
+    Ok(())
+}
+
+/// Adds a fault: its name, and the numbers that it has, a `Cut` that of the bytes that it keeps.
+fn push_fault(out: &mut String, fault: &ClientFault) -> Result<(), Fail> {
+    out.push_str(fault_name(fault))?;
     match fault {
-        ClientFault::Cut { received } => {
-            Ok(format!(in alloc; "{name} {}", received.as_slice().len())?)
-        }
+        ClientFault::Cut { received } => push_number(out, received.as_slice().len() as u64),
         ClientFault::Changed(first, other) => {
-            let (first, other) = (first.unwrap_or(0), other.unwrap_or(0));
-            Ok(format!(in alloc; "{name} {first} {other}")?)
+            push_number(out, first.unwrap_or(0))?;
+            push_number(out, other.unwrap_or(0))
         }
-        ClientFault::Budget(most) => Ok(format!(in alloc; "{name} {most}")?),
-        _ => Ok(String::from_str(alloc, name)?),
+        ClientFault::Budget(most) => push_number(out, *most),
+        _ => Ok(()),
     }
 }
 
-/// What a report tells, as text.
-fn report_told(alloc: Global, report: &Report) -> Result<String, Fail> {
-    let (requests, rows) = (report.requests, report.rows);
-    match report.version {
+/// Adds a version, or that there is none.
+fn push_version(out: &mut String, version: Option<u64>) -> Result<(), Fail> {
+    match version {
         Some(version) => {
-            Ok(format!(in alloc; "{requests} requests, {rows} rows, version {version}")?)
+            out.push_str("version")?;
+            push_number(out, version)
         }
-        None => Ok(format!(in alloc; "{requests} requests, {rows} rows, no version")?),
+        None => Ok(out.push_str("no version")?),
     }
+}
+
+/// Adds what a report tells.
+fn push_report(out: &mut String, report: &Report) -> Result<(), Fail> {
+    write!(out, "{} requests, {} rows, ", report.requests, report.rows)?;
+    push_version(out, report.version)
 }
 
 /// What came of a call, as text.
-fn told(alloc: Global, ended: &Result<Report, ClientFault>) -> Result<String, Fail> {
+pub fn told(alloc: Global, ended: &Result<Report, ClientFault>) -> Result<String, Fail> {
+    let mut text = String::new(alloc);
     match ended {
-        Ok(report) => report_told(alloc, report),
-        Err(fault) => fault_told(alloc, fault),
+        Ok(report) => push_report(&mut text, report)?,
+        Err(fault) => push_fault(&mut text, fault)?,
     }
+    Ok(text)
 }
 
 /// Fails where a text is not the one that is wanted.
@@ -108,38 +121,56 @@ pub fn same(text: &str, wanted: &str) -> Result<(), Fail> {
     Ok(())
 }
 
-/// What came of a call, and the text that the sink took.
+/// The failure of the case with this number, of which came what nobody wanted.
+pub fn unwanted(number: u64, told: &str, text: &str) -> Fail {
+    Fail::new(format_args!("{number}: {told}, {text}"))
+}
+
+/// What came of a call, and the sink that took its text.
 #[derive(Drop)]
 pub struct Came {
     pub told: String,
-    pub text: String,
+    pub sink: MemSink,
 }
 
 impl Came {
-    /// What came of a call that ended so, where the sink took this.
-    pub fn of_call(
-        alloc: Global,
-        ended: &Result<Report, ClientFault>,
-        taken: &[u8],
-    ) -> Result<Came, Fail> {
-        let told = told(alloc, ended)?;
-        let text = String::from_str(alloc, str::from_utf8(taken)?)?;
-        Ok(Came { told, text })
+    /// The text that the sink took.
+    pub fn text(&self) -> Result<&str, Fail> {
+        Ok(str::from_utf8(self.sink.taken())?)
+    }
+
+    /// Fails where the sink took another text.
+    pub fn check_text(&self, wanted: &str) -> Result<(), Fail> {
+        same(self.text()?, wanted)
     }
 }
 
-/// Asks a query of the server at [`BASE`].
-pub fn ask<R: Wait, W: Dial>(
+/// What came of a call that wrote to this sink.
+pub fn of_call(
+    alloc: Global,
+    ended: &Result<Report, ClientFault>,
+    sink: MemSink,
+) -> Result<Came, Fail> {
+    let told = told(alloc, ended)?;
+    Ok(Came { told, sink })
+}
+
+/// Asks a query that was parsed of the server at this address.
+fn ask_for<R: Wait, W: Dial>(
     rt: &R,
     alloc: Global,
-    text: &str,
+    asked: &Query,
+    base: &str,
     options: &Options,
     wire: &mut W,
     fails: Failing,
 ) -> Result<Came, Fail>
     requires { SuitsCalls options.now }
 {
-    ask_at(rt, alloc, BASE, text, options, wire, fails)
+    let start = WebAddress::read(alloc, base)?;
+    let mut out = MemSink::new(alloc, fails);
+    let ended = query(rt, alloc, asked, &start, options, wire, &mut out);
+    of_call(alloc, &ended, out)
 }
 
 /// Asks a query of the server at this address.
@@ -155,8 +186,19 @@ pub fn ask_at<R: Wait, W: Dial>(
     requires { SuitsCalls options.now }
 {
     let asked = parse(alloc, text.as_bytes())?;
-    let start = WebAddress::read(alloc, base)?;
-    let mut out = MemSink::new(alloc, fails);
-    let ended = query(rt, alloc, &asked, &start, options, wire, &mut out);
-    Came::of_call(alloc, &ended, out.taken())
+    ask_for(rt, alloc, &asked, base, options, wire, fails)
+}
+
+/// Asks a query of the server at [`BASE`].
+pub fn ask<R: Wait, W: Dial>(
+    rt: &R,
+    alloc: Global,
+    text: &str,
+    options: &Options,
+    wire: &mut W,
+    fails: Failing,
+) -> Result<Came, Fail>
+    requires { SuitsCalls options.now }
+{
+    ask_at(rt, alloc, BASE, text, options, wire, fails)
 }

@@ -1,5 +1,7 @@
 // A server in one process, over a wire one of whose calls fails.
-use crate::asked::{Came, ask, default_options, same};
+ghost use Rattle.std.specs.Prelude.{◌≡◌};
+
+use crate::asked::{Came, ask, default_options, same, unwanted};
 use fragment_server::{FragmentConnection, FragmentServer};
 use loop_wire::LoopWire;
 use std::alloc::Global;
@@ -19,14 +21,25 @@ const QUERY: &str = "SELECT * WHERE { ?x <http://e/k> ?y . ?y <http://e/n> ?z }"
 
 const FRONT: &str = "{\"head\":{\"vars\":[\"x\",\"y\",\"z\"]},\"results\":{\"bindings\":[";
 
-const FROM_A: &str =
-    "{\"x\":{\"type\":\"uri\",\"value\":\"http://e/a\"},\"y\":{\"type\":\"uri\",\"value\":\"http://e/c\"},\"z\":{\"type\":\"literal\",\"value\":\"C\"}}";
+/// The whole result, the row of `a` first, and that of `b` first.
+const WHOLE: [&str; 2] = [
+    "{\"head\":{\"vars\":[\"x\",\"y\",\"z\"]},\"results\":{\"bindings\":[\
+{\"x\":{\"type\":\"uri\",\"value\":\"http://e/a\"},\
+\"y\":{\"type\":\"uri\",\"value\":\"http://e/c\"},\
+\"z\":{\"type\":\"literal\",\"value\":\"C\"}},\
+{\"x\":{\"type\":\"uri\",\"value\":\"http://e/b\"},\
+\"y\":{\"type\":\"uri\",\"value\":\"http://e/c\"},\
+\"z\":{\"type\":\"literal\",\"value\":\"C\"}}]}}\n",
+    "{\"head\":{\"vars\":[\"x\",\"y\",\"z\"]},\"results\":{\"bindings\":[\
+{\"x\":{\"type\":\"uri\",\"value\":\"http://e/b\"},\
+\"y\":{\"type\":\"uri\",\"value\":\"http://e/c\"},\
+\"z\":{\"type\":\"literal\",\"value\":\"C\"}},\
+{\"x\":{\"type\":\"uri\",\"value\":\"http://e/a\"},\
+\"y\":{\"type\":\"uri\",\"value\":\"http://e/c\"},\
+\"z\":{\"type\":\"literal\",\"value\":\"C\"}}]}}\n",
+];
 
-const FROM_B: &str =
-    "{\"x\":{\"type\":\"uri\",\"value\":\"http://e/b\"},\"y\":{\"type\":\"uri\",\"value\":\"http://e/c\"},\"z\":{\"type\":\"literal\",\"value\":\"C\"}}";
-
-const END: &str = "]}}\n";
-
+/// A server of the data.
 fn server(alloc: Global) -> Result<FragmentServer, Fail> {
     Ok(FragmentServer::new(server_of(alloc, DATA, 100)?))
 }
@@ -35,6 +48,25 @@ fn one_call(alloc: Global, call: u64) -> Result<Vec<u64>, Fail> {
     let mut calls = Vec::new(alloc);
     calls.push(call)?;
     Ok(calls)
+}
+
+/// A wire of this seed whose call with this number fails.
+fn wire_of(alloc: Global, seed: u64, call: u64) -> Result<LoopWire<FragmentConnection>, Fail> {
+    let calls = one_call(alloc, call)?;
+    let server = server(alloc)?;
+    let wire: LoopWire<FragmentConnection> = LoopWire::new(alloc, server, seed, Failing::At(calls));
+    Ok(wire)
+}
+
+/// Options with so many retries.
+fn options_with(retries: u32) -> Options
+    ensures window { result.window ≡ 4 }
+    ensures links { result.links ≡ 4 }
+{
+    Options {
+        retries,
+        ..default_options()
+    }
 }
 
 /// What comes of a query over a wire of this seed whose call with this number fails.
@@ -46,19 +78,15 @@ fn came_of<R: Wait>(
     call: u64,
     retries: u32,
 ) -> Result<Came, Fail> {
-    let calls = one_call(alloc, call)?;
-    let server = server(alloc)?;
-    let mut wire: LoopWire<FragmentConnection> = LoopWire::new(
+    let mut wire = wire_of(alloc, seed, call)?;
+    ask(
+        rt,
         alloc,
-        server,
-        seed,
-        Failing::At(calls),
-    );
-    let options = Options {
-        retries,
-        ..default_options()
-    };
-    ask(rt, alloc, query, &options, &mut wire, Failing::Never)
+        query,
+        &options_with(retries),
+        &mut wire,
+        Failing::Never,
+    )
 }
 
 /// The same of the query of two patterns.
@@ -68,26 +96,28 @@ fn came<R: Wait>(rt: &R, alloc: Global, seed: u64, call: u64, retries: u32) -> R
 
 /// Whether a text is the whole result, in either order of its rows.
 fn is_whole(text: &str) -> bool {
-    let Some(rows) = text.strip_prefix(FRONT) else {
-        return false;
-    };
-    let length = FROM_A.len() + 1 + FROM_B.len() + END.len();
-    rows.len() == length && rows.contains(FROM_A) && rows.contains(FROM_B) && rows.ends_with(END)
+    text == WHOLE[0] || text == WHOLE[1]
 }
 
 /// Fails where something else was told, or the text is not the whole result.
 fn check_whole(came: &Came, call: u64) -> Result<(), Fail> {
-    if !came.told.ends_with(" requests, 2 rows, version 1") || !is_whole(came.text.as_str()) {
-        return Err(Fail::new(format_args!("{call}: {}, {}", came.told, came.text)));
+    let (told, text) = (came.told.as_str(), came.text()?);
+    if !told.ends_with(" requests, 2 rows, version 1") || !is_whole(text) {
+        return Err(unwanted(call, told, text));
     }
     Ok(())
+}
+
+/// Fails where the rows were not brought at the first try.
+fn check_first(came: &Came, call: u64) -> Result<(), Fail> {
+    check_whole(came, call)?;
+    same(came.told.as_str(), "4 requests, 2 rows, version 1")
 }
 
 /// Fails where a query over the wire of this seed does not bring the rows at the first try.
 fn check_seed<R: Wait>(rt: &R, alloc: Global, seed: u64) -> Result<(), Fail> {
     let came = came(rt, alloc, seed, 0, 0)?;
-    check_whole(&came, seed)?;
-    same(came.told.as_str(), "4 requests, 2 rows, version 1")
+    check_first(&came, seed)
 }
 
 #[test]
@@ -117,17 +147,23 @@ fn is_front(text: &str) -> bool {
     (text.is_empty() || text.starts_with(FRONT)) && !is_whole(text)
 }
 
+/// Fails where the text of a query that ended early is another one.
+fn check_front(came: &Came, call: u64) -> Result<(), Fail> {
+    let text = came.text()?;
+    if !is_front(text) {
+        return Err(unwanted(call, "exchange", text));
+    }
+    Ok(())
+}
+
 /// Whether a query ends of whose calls one fails; it fails where that leaves another text, or where
 /// else the query does not bring the rows at the first try.
 fn has_ended(came: &Came, call: u64) -> Result<bool, Fail> {
     if came.told.as_str() != "exchange" {
-        check_whole(came, call)?;
-        same(came.told.as_str(), "4 requests, 2 rows, version 1")?;
+        check_first(came, call)?;
         return Ok(false);
     }
-    if !is_front(came.text.as_str()) {
-        return Err(Fail::new(format_args!("{call}: {}", came.text)));
-    }
+    check_front(came, call)?;
     Ok(true)
 }
 
@@ -148,18 +184,17 @@ fn without_a_retry_a_call_that_fails_ends_the_query(rt: HostRuntime) -> Result<(
     Ok(())
 }
 
-/// What is told of a query of one row over a wire whose call with this number fails.
-fn told_of_one<R: Wait>(rt: &R, alloc: Global, call: u64) -> Result<String, Fail> {
+/// Fails where something else is told of a query of one row over a wire whose call with this number
+/// fails.
+fn check_one<R: Wait>(rt: &R, alloc: Global, call: u64, wanted: &str) -> Result<(), Fail> {
     let query = "SELECT * WHERE { ?x <http://e/n> ?y }";
     let came = came_of(rt, alloc, query, 1, call, 2)?;
-    Ok(came.told)
+    same(came.told.as_str(), wanted)
 }
 
 // The dial is the first call, and the request for the start page is sent by the second.
 #[test]
 fn a_second_call_that_fails_costs_one_request(rt: HostRuntime) -> Result<(), Fail> {
-    let whole = told_of_one(&rt, rt.alloc(), 0)?;
-    same(whole.as_str(), "2 requests, 1 rows, version 1")?;
-    let again = told_of_one(&rt, rt.alloc(), 2)?;
-    same(again.as_str(), "3 requests, 1 rows, version 1")
+    check_one(&rt, rt.alloc(), 0, "2 requests, 1 rows, version 1")?;
+    check_one(&rt, rt.alloc(), 2, "3 requests, 1 rows, version 1")
 }

@@ -1,8 +1,8 @@
 // Servers that say what no server should, and sinks that fail.
-ghost use Rattle.std.specs.Prelude.{◌≤◌};
+ghost use Rattle.std.specs.Prelude.{◌≡◌, ◌≤◌};
 ghost use Rattle.tpf_base.specs.declared.limits.TheConstants.{MOST_LINKS};
 
-use crate::asked::{Came, ask, default_options, same};
+use crate::asked::{Came, ask, default_options, same, unwanted};
 use crate::replies::wire_of;
 use std::alloc::Global;
 use std::sync::Wait;
@@ -17,14 +17,34 @@ const FRONT: &str = "{\"head\":{\"vars\":[\"s\",\"p\",\"o\"]},\"results\":{\"bin
 const ONE: &str =
     "{\"head\":{\"vars\":[\"s\",\"p\",\"o\"]},\"results\":{\"bindings\":[{\"o\":{\"type\":\"literal\",\"value\":\"x\"},\"p\":{\"type\":\"uri\",\"value\":\"u:p\"},\"s\":{\"type\":\"uri\",\"value\":\"u:s\"}}]}}\n";
 
-/// What comes of asking for all triples of a server whose replies these words are.
-fn asked<R: Wait>(rt: &R, alloc: Global, words: &str, max_body: u64) -> Result<Came, Fail> {
-    let options = Options {
-        max_body,
+/// Options with so many links, and bodies of up to 100000 bytes.
+fn options_over(links: u32) -> Options
+    ensures window { result.window ≡ 4 }
+    ensures links { result.links ≡ links }
+{
+    Options {
+        links,
+        max_body: 100000,
         ..default_options()
-    };
-    let mut wire = wire_of(alloc, words, 0)?;
-    ask(rt, alloc, ALL, &options, &mut wire, Failing::Never)
+    }
+}
+
+/// What comes of asking a server whose replies these words are over so many links, where the second
+/// reply is held back until so many links had a byte sent, and the sink fails so.
+fn asked<R: Wait>(
+    rt: &R,
+    alloc: Global,
+    query: &str,
+    words: &str,
+    after: u64,
+    links: u32,
+    fails: Failing,
+) -> Result<Came, Fail>
+    requires some { 1 ≤ links }
+    requires few { links ≤ MOST_LINKS }
+{
+    let mut wire = wire_of(alloc, words, after)?;
+    ask(rt, alloc, query, &options_over(links), &mut wire, fails)
 }
 
 /// The replies, and what comes of them: the reply to the start, then the one that matters.
@@ -57,17 +77,33 @@ const REPLIES: [(&str, &str); 19] = [
 ];
 
 /// Fails where something else comes of replies.
-fn check_told<R: Wait>(rt: &R, alloc: Global, words: &str, wanted: &str) -> Result<(), Fail> {
-    let came = asked(rt, alloc, words, 100000)?;
+fn check_told<R: Wait>(
+    rt: &R,
+    alloc: Global,
+    query: &str,
+    words: &str,
+    after: u64,
+    links: u32,
+    wanted: &str,
+) -> Result<(), Fail>
+    requires some { 1 ≤ links }
+    requires few { links ≤ MOST_LINKS }
+{
+    let came = asked(rt, alloc, query, words, after, links, Failing::Never)?;
     same(came.told.as_str(), wanted)
+}
+
+/// Fails where something else comes of some replies.
+fn check_each_told<R: Wait>(rt: &R, alloc: Global, rows: &[(&str, &str)]) -> Result<(), Fail> {
+    for (words, wanted) in rows {
+        check_told(rt, alloc, ALL, words, 0, 4, wanted)?;
+    }
+    Ok(())
 }
 
 #[test]
 fn what_no_server_should_say_has_its_name(rt: HostRuntime) -> Result<(), Fail> {
-    for (words, wanted) in &REPLIES {
-        check_told(&rt, rt.alloc(), words, wanted)?;
-    }
-    Ok(())
+    check_each_told(&rt, rt.alloc(), REPLIES.as_slice())
 }
 
 /// The replies, and the text that the sink took.
@@ -85,70 +121,56 @@ const TEXTS: [(&str, &str); 6] = [
 
 /// Fails where something else is written of replies.
 fn check_text<R: Wait>(rt: &R, alloc: Global, words: &str, wanted: &str) -> Result<(), Fail> {
-    let came = asked(rt, alloc, words, 100000)?;
-    same(came.text.as_str(), wanted)
+    let came = asked(rt, alloc, ALL, words, 0, 4, Failing::Never)?;
+    came.check_text(wanted)
 }
 
-#[test]
-fn what_was_found_is_written(rt: HostRuntime) -> Result<(), Fail> {
-    for (words, wanted) in &TEXTS {
-        check_text(&rt, rt.alloc(), words, wanted)?;
+/// Fails where something else is written of some replies.
+fn check_each_text<R: Wait>(rt: &R, alloc: Global, rows: &[(&str, &str)]) -> Result<(), Fail> {
+    for (words, wanted) in rows {
+        check_text(rt, alloc, words, wanted)?;
     }
     Ok(())
 }
 
+#[test]
+fn what_was_found_is_written(rt: HostRuntime) -> Result<(), Fail> {
+    check_each_text(&rt, rt.alloc(), TEXTS.as_slice())
+}
+
 const FOUR: &str = "SELECT * WHERE { ?a <u:p> ?b . ?b <u:q> ?c . ?c <u:r> ?d . ?d <u:s> ?e }";
 
-/// What comes of four patterns over so many links, where the reply to the first is held back until the
-/// start and all four were asked for.
-fn asked_at_once<R: Wait>(rt: &R, alloc: Global, links: u32) -> Result<Came, Fail>
-    requires some { 1 ≤ links }
-    requires few { links ≤ MOST_LINKS }
-{
-    let options = Options {
-        links,
-        ..default_options()
-    };
-    let mut wire = wire_of(alloc, "f7 f0 f0 f0 f0", 5)?;
-    ask(rt, alloc, FOUR, &options, &mut wire, Failing::Never)
-}
-
+// The reply to the first pattern is held back until the start and all four were asked for.
 #[test]
-fn all_patterns_are_asked_for_at_once(rt: HostRuntime) -> Result<(), Fail> {
-    let came = asked_at_once(&rt, rt.alloc(), 4)?;
-    same(came.told.as_str(), "5 requests, 0 rows, no version")
-}
-
-#[test]
-fn over_one_link_the_first_reply_is_waited_for(rt: HostRuntime) -> Result<(), Fail> {
-    let came = asked_at_once(&rt, rt.alloc(), 1)?;
-    same(came.told.as_str(), "exchange")
-}
-
-/// What comes of a query with one row, where the sink takes so many bytes.
-fn asked_into<R: Wait>(rt: &R, alloc: Global, most: usize) -> Result<Came, Fail> {
-    let mut wire = wire_of(alloc, "f1v f1vd", 0)?;
-    let fails = Failing::AfterBytes(most as u64);
-    ask(rt, alloc, ALL, &default_options(), &mut wire, fails)
+fn all_patterns_are_asked_for_at_once_but_over_one_link(rt: HostRuntime) -> Result<(), Fail> {
+    let words = "f7 f0 f0 f0 f0";
+    let wanted = "5 requests, 0 rows, no version";
+    check_told(&rt, rt.alloc(), FOUR, words, 5, 4, wanted)?;
+    check_told(&rt, rt.alloc(), FOUR, words, 5, 1, "exchange")
 }
 
 /// Whether the sink is said to have failed where it did, and took so many bytes of the result.
-fn is_front(came: &Came, most: usize) -> bool {
+fn is_front(told: &str, text: &str, most: usize) -> bool {
     let wanted = if most < ONE.len() {
         "sink"
     } else {
         "2 requests, 1 rows, version 1"
     };
-    let text = came.text.as_str();
-    came.told.as_str() == wanted && ONE.starts_with(text) && text.len() == most
+    told == wanted && ONE.starts_with(text) && text.len() == most
+}
+
+fn check_taken(came: &Came, most: usize) -> Result<(), Fail> {
+    let (told, text) = (came.told.as_str(), came.text()?);
+    if !is_front(told, text, most) {
+        return Err(unwanted(most as u64, told, text));
+    }
+    Ok(())
 }
 
 fn check_front<R: Wait>(rt: &R, alloc: Global, most: usize) -> Result<(), Fail> {
-    let came = asked_into(rt, alloc, most)?;
-    if !is_front(&came, most) {
-        return Err(Fail::new(format_args!("{most}: {}, {}", came.told, came.text)));
-    }
-    Ok(())
+    let fails = Failing::AfterBytes(most as u64);
+    let came = asked(rt, alloc, ALL, "f1v f1vd", 0, 4, fails)?;
+    check_taken(&came, most)
 }
 
 #[test]

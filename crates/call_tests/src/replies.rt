@@ -19,106 +19,84 @@ _:o <http://www.w3.org/ns/hydra/core#variable> \"object\" <g:1> .
 _:o <http://www.w3.org/ns/hydra/core#property> <http://www.w3.org/1999/02/22-rdf-syntax-ns#object> <g:1> .
 ";
 
-/// What a letter of a page stands for, on the link with this number.
-fn push_part(alloc: Global, out: &mut String, letter: char, number: usize) -> Result<(), Fail> {
+const COUNT_0: &str =
+    "<http://localhost/data> <http://www.w3.org/ns/hydra/core#totalItems> \"0\" <g:1> .\n";
+
+const COUNT_1: &str =
+    "<http://localhost/data> <http://www.w3.org/ns/hydra/core#totalItems> \"1\" <g:1> .\n";
+
+const COUNT_7: &str =
+    "<http://localhost/data> <http://www.w3.org/ns/hydra/core#totalItems> \"7\" <g:1> .\n";
+
+const COUNT_X: &str =
+    "<http://localhost/data> <http://www.w3.org/ns/hydra/core#totalItems> \"x\" <g:1> .\n";
+
+const NEXT_SAME: &str =
+    "<http://localhost/data> <http://www.w3.org/ns/hydra/core#next> <http://localhost/data> <g:1> .\n";
+
+const NEXT_OTHER: &str =
+    "<http://localhost/data> <http://www.w3.org/ns/hydra/core#next> <http://other/data> <g:1> .\n";
+
+const VERSION_1: &str = "<d:s> <http://www.w3.org/2002/07/owl#versionInfo> \"1\" <g:1> .\n";
+
+const VERSION_2: &str = "<d:s> <http://www.w3.org/2002/07/owl#versionInfo> \"2\" <g:1> .\n";
+
+/// What a letter of a page stands for, where that is the same on each link.
+fn part(letter: char) -> &'static str {
     match letter {
         // The form.
-        'f' => out.push_str(FORM)?,
+        'f' => FORM,
         // The count: 0, 1, 7, and no number.
-        '0' => push_count(out, "0")?,
-        '1' => push_count(out, "1")?,
-        '7' => push_count(out, "7")?,
-        'x' => push_count(out, "x")?,
-        // The next page: another one, the page itself, and one of another authority.
-        'n' => push_next(out, numbered(alloc, number)?.as_str())?,
-        's' => push_next(out, "http://localhost/data")?,
-        'o' => push_next(out, "http://other/data")?,
+        '0' => COUNT_0,
+        '1' => COUNT_1,
+        '7' => COUNT_7,
+        'x' => COUNT_X,
+        // The next page: the page itself, and one of another authority.
+        's' => NEXT_SAME,
+        'o' => NEXT_OTHER,
         // The version: 1, and 2.
-        'v' => push_version(out, "1")?,
-        'w' => push_version(out, "2")?,
+        'v' => VERSION_1,
+        'w' => VERSION_2,
         // Data, and data with a blank node.
-        'd' => out.push_str("<u:s> <u:p> \"x\" .\n")?,
-        'b' => out.push_str("<u:s> <u:p> _:b .\n")?,
-        _ => {}
+        'd' => "<u:s> <u:p> \"x\" .\n",
+        'b' => "<u:s> <u:p> _:b .\n",
+        _ => "",
     }
+}
+
+/// Adds the next page, which is the one with this number.
+fn push_next(out: &mut String, number: usize) -> Result<(), Fail> {
+    write!(
+        out,
+        "<http://localhost/data> <http://www.w3.org/ns/hydra/core#next> <http://localhost/data?page={number}> <g:1> .\n"
+    )?;
     Ok(())
 }
 
-fn push_line(out: &mut String, front: &str, value: &str, back: &str) -> Result<(), Fail> {
-    out.push_str(front)?;
-    out.push_str(value)?;
-    out.push_str(back)?;
+/// Adds what a letter of a page stands for, on the link with this number: `n` the next page, which is
+/// another one, and each other letter its part.
+fn push_part(out: &mut String, letter: char, number: usize) -> Result<(), Fail> {
+    if letter == 'n' {
+        return push_next(out, number);
+    }
+    out.push_str(part(letter))?;
     Ok(())
-}
-
-fn push_count(out: &mut String, count: &str) -> Result<(), Fail> {
-    let front = "<http://localhost/data> <http://www.w3.org/ns/hydra/core#totalItems> \"";
-    push_line(out, front, count, "\" <g:1> .\n")
-}
-
-fn push_next(out: &mut String, address: &str) -> Result<(), Fail> {
-    let front = "<http://localhost/data> <http://www.w3.org/ns/hydra/core#next> <";
-    push_line(out, front, address, "> <g:1> .\n")
-}
-
-/// The address of the page with this number.
-fn numbered(alloc: Global, number: usize) -> Result<String, Fail> {
-    Ok(format!(in alloc; "http://localhost/data?page={number}")?)
-}
-
-fn push_version(out: &mut String, version: &str) -> Result<(), Fail> {
-    let front = "<d:s> <http://www.w3.org/2002/07/owl#versionInfo> \"";
-    push_line(out, front, version, "\" <g:1> .\n")
 }
 
 /// The page whose parts these letters are.
 fn page_text(alloc: Global, letters: &str, number: usize) -> Result<String, Fail> {
     let mut out = String::new(alloc);
     for letter in letters.chars() {
-        push_part(alloc, &mut out, letter, number)?;
+        push_part(&mut out, letter, number)?;
     }
     Ok(out)
 }
-
-const HEAD: &str = "HTTP/1.1 200 OK\r\nContent-Type: application/n-quads\r\nConnection: close\r\n";
 
 /// A reply with this body and this length.
 fn with_length(alloc: Global, body: &str, length: usize) -> Result<String, Fail> {
-    Ok(format!(in alloc; "{HEAD}Content-Length: {length}\r\n\r\n{body}")?)
-}
-
-/// Adds so many letters.
-fn add_letters(out: &mut String, letters: u32) -> Result<(), Fail> {
-    for _ in 0..letters {
-        out.push('a')?;
-    }
-    Ok(())
-}
-
-/// The line of a chunk of one byte, which has so many bytes, the line end among them.
-fn chunk_line(alloc: Global, bytes: u32) -> Result<String, Fail> {
-    let mut line = String::from_str(alloc, "1;")?;
-    add_letters(&mut line, bytes.saturating_sub(4))?;
-    line.push_str("\r\n")?;
-    Ok(line)
-}
-
-/// Adds so many chunks of one byte behind this line.
-fn add_chunks(out: &mut String, line: &str, chunks: u32) -> Result<(), Fail> {
-    for _ in 0..chunks {
-        out.push_str(line)?;
-        out.push_str("x\r\n")?;
-    }
-    Ok(())
-}
-
-/// Chunks of one byte each, whose lines have so many bytes, and then an end.
-fn dripped(alloc: Global, bytes: u32, chunks: u32, end: &str) -> Result<String, Fail> {
-    let line = chunk_line(alloc, bytes)?;
-    let mut out = format!(in alloc; "{HEAD}Transfer-Encoding: chunked\r\n\r\n")?;
-    add_chunks(&mut out, line.as_str(), chunks)?;
-    out.push_str(end)?;
-    Ok(out)
+    Ok(format!(in alloc;
+        "HTTP/1.1 200 OK\r\nContent-Type: application/n-quads\r\nConnection: close\r\nContent-Length: {length}\r\n\r\n{body}"
+    )?)
 }
 
 /// A page by the letters of its parts.
@@ -127,22 +105,62 @@ fn page(alloc: Global, letters: &str, number: usize) -> Result<String, Fail> {
     with_length(alloc, page.as_str(), page.len())
 }
 
+/// The head of a reply in chunks.
+const CHUNKED: &str =
+    "HTTP/1.1 200 OK\r\nContent-Type: application/n-quads\r\nConnection: close\r\nTransfer-Encoding: chunked\r\n\r\n";
+
+/// Adds so many chunks of one byte, with these letters on their lines, and then an end.
+fn push_chunks(out: &mut String, letters: &str, chunks: u32, end: &str) -> Result<(), Fail> {
+    for _ in 0..chunks {
+        write!(out, "1;{letters}\r\nx\r\n")?;
+    }
+    Ok(out.push_str(end)?)
+}
+
+/// A reply in chunks, with these letters on the line of each.
+fn chunked(alloc: Global, letters: &str, chunks: u32, end: &str) -> Result<String, Fail> {
+    let mut out = String::from_str(alloc, CHUNKED)?;
+    push_chunks(&mut out, letters, chunks, end)?;
+    Ok(out)
+}
+
+/// Chunks of one byte each, whose lines have so many bytes, the line end among them, and then an end.
+fn dripped(alloc: Global, bytes: usize, chunks: u32, end: &str) -> Result<String, Fail> {
+    let letters = "a".repeat(alloc, bytes.saturating_sub(4))?;
+    chunked(alloc, letters.as_str(), chunks, end)
+}
+
 const NOT_FOUND: &str = "HTTP/1.1 404 Not Found\r\nConnection: close\r\nContent-Length: 0\r\n\r\n";
 
 const ZIPPED: &str =
     "HTTP/1.1 200 OK\r\nContent-Type: application/n-quads\r\nConnection: close\r\nContent-Encoding: gzip\r\nContent-Length: 1\r\n\r\nx";
 
-/// Half a body of 100 bytes.
-const HALF: &str = "xxxxxxxxxxxxxxxxxxxxxxxxxxxxxxxxxxxxxxxxxxxxxxxxxx";
+const EMPTY: &str =
+    "HTTP/1.1 200 OK\r\nContent-Type: application/n-quads\r\nConnection: close\r\nContent-Length: 0\r\n\r\n";
 
-/// What a word stands for: a reply by its name, or a page by the letters of its parts.
-fn reply(alloc: Global, word: &str, number: usize) -> Result<String, Fail> {
+/// Half a body of 100 bytes.
+const HALF: &str =
+    "HTTP/1.1 200 OK\r\nContent-Type: application/n-quads\r\nConnection: close\r\nContent-Length: 100\r\n\r\nxxxxxxxxxxxxxxxxxxxxxxxxxxxxxxxxxxxxxxxxxxxxxxxxxx";
+
+/// The head of a body of more bytes than are allowed.
+const OVER: &str =
+    "HTTP/1.1 200 OK\r\nContent-Type: application/n-quads\r\nConnection: close\r\nContent-Length: 100001\r\n\r\n";
+
+/// The reply that has this name, if one has it.
+fn named(word: &str) -> Option<&'static str> {
     match word {
-        "-404" => Ok(String::from_str(alloc, NOT_FOUND)?),
-        "-gzip" => Ok(String::from_str(alloc, ZIPPED)?),
-        "-empty" => with_length(alloc, "", 0),
-        "-half" => with_length(alloc, HALF, 100),
-        "-over" => with_length(alloc, "", 100001),
+        "-404" => Some(NOT_FOUND),
+        "-gzip" => Some(ZIPPED),
+        "-empty" => Some(EMPTY),
+        "-half" => Some(HALF),
+        "-over" => Some(OVER),
+        _ => None,
+    }
+}
+
+/// A reply in chunks by its name, or a page by the letters of its parts.
+fn made(alloc: Global, word: &str, number: usize) -> Result<String, Fail> {
+    match word {
         "-line" => dripped(alloc, 1025, 1, "0\r\n\r\n"),
         "-1054" => dripped(alloc, 1000, 1054, ""),
         "-1055" => dripped(alloc, 1000, 1055, ""),
@@ -150,10 +168,19 @@ fn reply(alloc: Global, word: &str, number: usize) -> Result<String, Fail> {
     }
 }
 
+/// What a word stands for on the link with this number.
+fn reply(alloc: Global, word: &str, number: usize) -> Result<String, Fail> {
+    match named(word) {
+        Some(text) => Ok(String::from_str(alloc, text)?),
+        None => made(alloc, word, number),
+    }
+}
+
 /// A link on which this reply comes, once so many links had a byte sent, and then the end.
 fn script(alloc: Global, reply: &str, after: u64) -> Result<Script, Fail> {
+    let piece = Bytes::copy(alloc, reply.as_bytes())?;
     let mut pieces = Vec::new(alloc);
-    pieces.push(Bytes::copy(alloc, reply.as_bytes())?)?;
+    pieces.push(piece)?;
     Ok(Script {
         after,
         pieces,
@@ -162,14 +189,32 @@ fn script(alloc: Global, reply: &str, after: u64) -> Result<Script, Fail> {
     })
 }
 
-/// The links of these words. The reply of the second one is held back until so many links had a byte
-/// sent.
+/// The link of the word with this number. The reply of the second one is held back until so many
+/// links had a byte sent.
+fn script_of(alloc: Global, number: usize, word: &str, after: u64) -> Result<Script, Fail> {
+    let text = reply(alloc, word, number.saturating_add(2))?;
+    let held = if number == 1 { after } else { 0 };
+    script(alloc, text.as_str(), held)
+}
+
+/// Adds the link of the word with this number.
+fn push_script(
+    alloc: Global,
+    scripts: &mut Vec<Script>,
+    number: usize,
+    word: &str,
+    after: u64,
+) -> Result<(), Fail> {
+    let script = script_of(alloc, number, word, after)?;
+    scripts.push(script)?;
+    Ok(())
+}
+
+/// The links of these words, of which the second is held back so.
 fn scripts(alloc: Global, words: &str, after: u64) -> Result<Vec<Script>, Fail> {
     let mut scripts = Vec::new(alloc);
     for (number, word) in words.split(' ').enumerate() {
-        let text = reply(alloc, word, number.saturating_add(2))?;
-        let held = if number == 1 { after } else { 0 };
-        scripts.push(script(alloc, text.as_str(), held)?)?;
+        push_script(alloc, &mut scripts, number, word, after)?;
     }
     Ok(scripts)
 }

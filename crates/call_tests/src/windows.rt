@@ -1,5 +1,5 @@
 // How many nodes of a join work at once, seen on the one link of a client.
-ghost use Rattle.std.specs.Prelude.{◌≤◌};
+ghost use Rattle.std.specs.Prelude.{◌≡◌, ◌≤◌};
 
 use crate::asked::{ask, default_options, same};
 use fragment_server::{FragmentConnection, FragmentServer};
@@ -35,43 +35,52 @@ fn is_deep_first(wire: &LoopWire<FragmentConnection>) -> Result<bool, Fail> {
     Ok(first_with(requests, "%2Fc10&") < first_with(requests, "%2Fb11&"))
 }
 
-/// What comes of the query over one link, and whether `c10` was asked for before `b11`.
-fn asked_over<R: Wait>(
-    rt: &R,
-    alloc: Global,
-    window: u32,
-    wire: &mut LoopWire<FragmentConnection>,
-) -> Result<(String, bool), Fail>
-    requires { 1 ≤ window }
+/// Options with this window and one link.
+fn options_with(window: u32) -> Options
+    ensures window { result.window ≡ window }
+    ensures links { result.links ≡ 1 }
 {
-    let options = Options {
+    Options {
         window,
         links: 1,
         budget: 1000,
         ..default_options()
-    };
-    let came = ask(rt, alloc, QUERY, &options, wire, Failing::Never)?;
-    Ok((came.told, is_deep_first(wire)?))
+    }
 }
 
-fn asked_with<R: Wait>(rt: &R, alloc: Global, window: u32) -> Result<(String, bool), Fail>
+/// Fails where the query over one link, with this window, does not bring the rows.
+fn check_rows<R: Wait>(
+    rt: &R,
+    alloc: Global,
+    window: u32,
+    wire: &mut LoopWire<FragmentConnection>,
+) -> Result<(), Fail>
+    requires { 1 ≤ window }
+{
+    let came = ask(
+        rt,
+        alloc,
+        QUERY,
+        &options_with(window),
+        wire,
+        Failing::Never,
+    )?;
+    same(came.told.as_str(), "67 requests, 20 rows, version 1")
+}
+
+/// Whether `c10` was asked for before `b11`, with this window; it fails where the rows are others.
+fn asks_deep_first<R: Wait>(rt: &R, alloc: Global, window: u32) -> Result<bool, Fail>
     requires { 1 ≤ window }
 {
     let mut wire = wire_of(alloc)?;
-    asked_over(rt, alloc, window, &mut wire)
+    check_rows(rt, alloc, window, &mut wire)?;
+    is_deep_first(&wire)
 }
 
 // The start, three first pages, three further ones, two for each `b` and one for each `c`.
 #[test]
-fn with_one_window_the_deepest_node_is_started_first(rt: HostRuntime) -> Result<(), Fail> {
-    let (told, is_deep_first) = asked_with(&rt, rt.alloc(), 1)?;
-    assert!(rt; is_deep_first);
-    same(told.as_str(), "67 requests, 20 rows, version 1")
-}
-
-#[test]
-fn with_two_windows_two_nodes_are_started(rt: HostRuntime) -> Result<(), Fail> {
-    let (told, is_deep_first) = asked_with(&rt, rt.alloc(), 2)?;
-    assert!(rt; !is_deep_first);
-    same(told.as_str(), "67 requests, 20 rows, version 1")
+fn one_window_starts_the_deepest_node_first_and_two_start_two(rt: HostRuntime) -> Result<(), Fail> {
+    assert!(rt; asks_deep_first(&rt, rt.alloc(), 1)?);
+    assert!(rt; !asks_deep_first(&rt, rt.alloc(), 2)?);
+    Ok(())
 }

@@ -15,3 +15,5 @@ mod polling;
 mod pooling;
 #[cfg(test)]
 mod stepping;
+#[cfg(test)]
+mod wires;

@@ -1,5 +1,5 @@
 // Replies that are as long as one may be, and longer.
-use crate::exchanges::{ended, first, started, wire, with_ok};
+use crate::exchanges::{asked_first, first, started, with_ok};
 use exchange::ExchangeFault;
 use http_wire::{Reply, ReplyFault};
 use std::alloc::Global;
@@ -13,13 +13,19 @@ fn fill(text: &mut String, most: usize) -> Result<(), Fail> {
     Ok(())
 }
 
+/// Adds so many bytes, a begin and the letter x behind it, and an end.
+fn add_filled(reply: &mut String, begin: &str, length: usize, end: &str) -> Result<(), Fail> {
+    let most = reply.len().saturating_add(length);
+    reply.push_str(begin)?;
+    fill(reply, most)?;
+    reply.push_str(end)?;
+    Ok(())
+}
+
 /// Adds so many chunks of one byte, each behind a line of 1000 bytes.
 fn add_chunks(reply: &mut String, chunks: usize) -> Result<(), Fail> {
     for _ in 0..chunks {
-        let begins = reply.len();
-        reply.push_str("1;")?;
-        fill(reply, begins.saturating_add(998))?;
-        reply.push_str("\r\na\r\n")?;
+        add_filled(reply, "1;", 998, "\r\na\r\n")?;
     }
     Ok(())
 }
@@ -31,43 +37,25 @@ fn padded(alloc: Global, chunks: usize) -> Result<String, Fail> {
     Ok(reply)
 }
 
-/// A reply that is as long as one can be before it is too long, where a body may have 1054 bytes: a
-/// head of 65536 bytes, 1054 chunks of one byte, whose lines and that of the last chunk have the
-/// 1057008 bytes which may stand there, and 65536 bytes of trailers.
+/// Adds what makes a begun reply as long as one can be before it is too long, where a body may have
+/// 1054 bytes: a head of 65536 bytes, 1054 chunks of one byte, whose lines and that of the last
+/// chunk have the 1057008 bytes which may stand there, and 65536 bytes of trailers.
+fn add_longest(reply: &mut String) -> Result<(), Fail> {
+    fill(reply, 65_532)?;
+    reply.push_str("\r\n\r\n")?;
+    add_chunks(reply, 1054)?;
+    add_filled(reply, "0;", 898, "\r\n")?;
+    add_filled(reply, "", 65_536, "")
+}
+
 fn longest(alloc: Global) -> Result<String, Fail> {
     let mut reply = with_ok(alloc, "Transfer-Encoding: chunked\r\nX: ")?;
-    fill(&mut reply, 65_532)?;
-    reply.push_str("\r\n\r\n")?;
-    add_chunks(&mut reply, 1054)?;
-    let last = reply.len();
-    reply.push_str("0;")?;
-    fill(&mut reply, last.saturating_add(898))?;
-    reply.push_str("\r\n")?;
-    let trailers = reply.len().saturating_add(65_536);
-    fill(&mut reply, trailers)?;
+    add_longest(&mut reply)?;
     Ok(reply)
 }
 
-/// The answer where a reply comes in these pieces, and the link ends.
-fn answer_to(
-    alloc: Global,
-    limit: u64,
-    pieces: &[&[u8]],
-) -> Result<Result<Reply, ExchangeFault>, Fail> {
-    let mut wire = wire(alloc, pieces, true, 65536)?;
-    Ok(ended(alloc, limit, &mut wire)?.answer)
-}
-
-/// Whether the link ended, and all bytes are kept.
-fn is_cut(answer: Result<Reply, ExchangeFault>, bytes: &[u8]) -> bool {
-    match answer {
-        Err(ExchangeFault::Cut { received }) => received.as_slice() == bytes,
-        _ => false,
-    }
-}
-
 /// How many bytes are kept of a reply that is too long.
-fn kept_of(answer: Result<Reply, ExchangeFault>) -> Option<usize> {
+fn kept_of(answer: &Result<Reply, ExchangeFault>) -> Option<usize> {
     match answer {
         Err(
             ExchangeFault::Bad {
@@ -79,55 +67,55 @@ fn kept_of(answer: Result<Reply, ExchangeFault>) -> Option<usize> {
     }
 }
 
-/// Whether the reply is too long, and no more than so many bytes are kept.
-fn is_too_long(answer: Result<Reply, ExchangeFault>, most: usize) -> bool {
-    match kept_of(answer) {
-        Some(kept) => kept <= most,
-        None => false,
+/// How an exchange ended on whose link these bytes came: cut with all of them kept, or too long
+/// with no more of them kept.
+fn end_of(answer: &Result<Reply, ExchangeFault>, bytes: &[u8]) -> &'static str {
+    match answer {
+        Err(ExchangeFault::Cut { received }) if received.as_slice() == bytes => "cut",
+        _ => match kept_of(answer) {
+            Some(kept) if kept <= bytes.len() => "too long",
+            _ => "otherwise",
+        },
     }
 }
 
 #[test]
 fn an_exchange_keeps_nothing_at_its_start(rt: HostRuntime) -> Result<(), Fail> {
-    let exchange = started(rt.alloc(), 2000)?;
+    let exchange = started(rt.alloc(), 2000, None)?;
     assert_eq!(rt; exchange.kept(), 0);
     Ok(())
 }
 
-/// Whether a reply of so many chunks is cut at its end.
-fn is_padded_cut(alloc: Global, chunks: usize) -> Result<bool, Fail> {
+/// How an exchange ends on whose link a reply of so many chunks comes, and then the end.
+fn padded_end(alloc: Global, chunks: usize) -> Result<&'static str, Fail> {
     let reply = padded(alloc, chunks)?;
-    let answer = answer_to(alloc, 2000, &[reply.as_bytes()])?;
-    Ok(is_cut(answer, reply.as_bytes()))
+    let outcome = asked_first(alloc, 2000, &[reply.as_bytes()], true)?;
+    Ok(end_of(&outcome.answer, reply.as_bytes()))
+}
+
+/// Fails where it ends otherwise.
+fn check_padded(alloc: Global, chunks: usize, wanted: &str) -> Result<(), Fail> {
+    let end = padded_end(alloc, chunks)?;
+    if end != wanted {
+        return Err(Fail::new(format_args!("{chunks} chunks: {end}")));
+    }
+    Ok(())
 }
 
 #[test]
-fn a_reply_padded_as_much_as_it_may_be_is_cut_at_its_end(rt: HostRuntime) -> Result<(), Fail> {
+fn a_reply_padded_too_much_is_too_long_and_else_cut_at_its_end(
+    rt: HostRuntime,
+) -> Result<(), Fail> {
     // 1002 bytes for each of 1054 chunks are 1056108, and 1048576 and eight for each byte 1057008
-    assert!(rt; is_padded_cut(rt.alloc(), 1054)?);
-    Ok(())
-}
-
-/// Whether a reply of so many chunks is too long.
-fn is_padded_too_long(alloc: Global, chunks: usize) -> Result<bool, Fail> {
-    let reply = padded(alloc, chunks)?;
-    let answer = answer_to(alloc, 2000, &[reply.as_bytes()])?;
-    Ok(is_too_long(answer, reply.len()))
-}
-
-#[test]
-fn a_reply_padded_too_much_is_too_long(rt: HostRuntime) -> Result<(), Fail> {
-    assert!(rt; is_padded_too_long(rt.alloc(), 1055)?);
-    Ok(())
+    check_padded(rt.alloc(), 1054, "cut")?;
+    check_padded(rt.alloc(), 1055, "too long")
 }
 
 /// How many bytes are kept where 8192 follow the longest reply.
 fn kept_of_longest(alloc: Global) -> Result<Option<usize>, Fail> {
     let reply = longest(alloc)?;
-    let mut behind = String::new(alloc);
-    fill(&mut behind, 8192)?;
-    let answer = answer_to(alloc, 1054, &[reply.as_bytes(), behind.as_bytes()])?;
-    Ok(kept_of(answer))
+    let outcome = asked_first(alloc, 1054, &[reply.as_bytes(), &[b'x'; 8192]], true)?;
+    Ok(kept_of(&outcome.answer))
 }
 
 #[test]
@@ -139,9 +127,7 @@ fn no_more_is_kept_than_the_bound_and_as_much_can_be(rt: HostRuntime) -> Result<
 /// A reply with a body of three million bytes.
 fn large(alloc: Global) -> Result<String, Fail> {
     let mut reply = with_ok(alloc, "Content-Length: 3000000\r\n\r\n")?;
-    for _ in 0..3_000_000 {
-        reply.push('a')?;
-    }
+    add_filled(&mut reply, "", 3_000_000, "")?;
     Ok(reply)
 }
 

@@ -1,5 +1,5 @@
 // Polling an exchange by hand.
-ghost use Rattle.std.specs.Prelude.{◌≡◌};
+ghost use Rattle.std.specs.Prelude.{◌≡◌, OnOk};
 ghost use Rattle.exchange.specs.Exchanges.{IsLinked, left_link};
 ghost use Rattle.exchange.specs.declared.exchange.Standing.TheVariants.{Underway};
 
@@ -7,11 +7,11 @@ use exchange::{Exchange, ExchangeFault, ReceiveBuffer};
 use futures::task::Poll;
 use http_wire::Reply;
 use std::alloc::Global;
-use template_fill::WebAddress;
-use tpf_base::{Dial, OutOfMemory};
+use std::test::Fail;
+use tpf_base::Dial;
 
 /// Polls at most so many times, up to an answer. A link that is left is open.
-pub fn polled<W: Dial>(
+fn polled<W: Dial>(
     exchange: &mut Exchange,
     wire: &mut W,
     buffer: &mut ReceiveBuffer,
@@ -31,20 +31,19 @@ pub fn polled<W: Dial>(
     None
 }
 
-/// Asks for an address on the link that an exchange left, or on one that it dials, and polls at most
-/// so many times.
-pub fn asked_behind<W: Dial>(
+/// Polls up to an answer. A link that is left is open.
+pub fn answered<W: Dial>(
     alloc: Global,
-    address: WebAddress,
-    limit: u64,
-    first: Exchange,
+    exchange: &mut Exchange,
     wire: &mut W,
-    buffer: &mut ReceiveBuffer,
-    most: u32,
-) -> Result<(Exchange, Option<Result<Reply, ExchangeFault>>), OutOfMemory>
-    requires left { IsLinked (left_link first) (W.state wire.old) }
+) -> Result<Result<Reply, ExchangeFault>, Fail>
+    requires underway { exchange.old.standing ≡ Underway }
+    requires link { IsLinked exchange.old.link (W.state wire.old) }
+    ensures left { OnOk result (IsLinked (left_link exchange.new) (W.state wire.new)) }
 {
-    let mut exchange = Exchange::start(alloc, address, limit, first.leave())?;
-    let answer = polled(&mut exchange, wire, buffer, most);
-    Ok((exchange, answer))
+    let mut buffer = ReceiveBuffer::new(alloc)?;
+    match polled(exchange, wire, &mut buffer, 10_000) {
+        Some(answer) => Ok(answer),
+        None => Err(Fail::new("it is never ready")),
+    }
 }

@@ -1,5 +1,5 @@
 // Stepping a pool by hand.
-ghost use Rattle.std.specs.Prelude.{ℕ, ◌≡◌, []};
+ghost use Rattle.std.specs.Prelude.{◌≡◌, []};
 ghost use Rattle.tpf_base.specs.Links.{WireState};
 ghost use Rattle.request_pool.specs.Pools.{held};
 ghost use Rattle.request_pool.specs.Owned.{SuitsWire};
@@ -10,13 +10,18 @@ use std::test::Fail;
 use template_fill::WebAddress;
 use tpf_base::Dial;
 
-/// The address of a path with this number, at a host with this letter.
-fn address(alloc: Global, host: u8, number: usize) -> Result<WebAddress, Fail> {
-    let text = format!(in alloc; "http://{}/{number}", host as char)?;
-    match WebAddress::read(alloc, text.as_str()) {
+/// The address that a text is.
+pub fn address(alloc: Global, text: &str) -> Result<WebAddress, Fail> {
+    match WebAddress::read(alloc, text) {
         Ok(address) => Ok(address),
         Err(_) => Err(Fail::new("no address")),
     }
+}
+
+/// The address of a path with this number, at a host with this letter.
+fn numbered(alloc: Global, host: u8, number: usize) -> Result<WebAddress, Fail> {
+    let text = format!(in alloc; "http://{}/{number}", host as char)?;
+    address(alloc, text.as_str())
 }
 
 /// Puts an ask for each host, under the tickets 0, 1, 2 and so on, which its path has too.
@@ -25,7 +30,7 @@ pub fn put_all(alloc: Global, pool: &mut Pool, hosts: &[u8]) -> Result<(), Fail>
     ensures suits { (wire : WireState) → SuitsWire pool.old wire → SuitsWire pool.new wire }
 {
     for (place, host) in hosts.iter().enumerate() {
-        let address = address(alloc, *host, place)?;
+        let address = numbered(alloc, *host, place)?;
         pool.put(place as u64, address)?;
     }
     Ok(())
@@ -51,38 +56,30 @@ fn fault_name(fault: &PoolFault) -> &'static str {
     }
 }
 
-/// The ticket of a reply, whose address is the one that was asked for under it.
+/// The ticket of a reply. Fails where its address is not the one that was asked for under it.
 fn answered(alloc: Global, ticket: u64, address: &WebAddress) -> Result<String, Fail> {
-    let path = format!(in alloc; "/{ticket}")?;
-    if address.target() == path.as_str() {
-        return Ok(format!(in alloc; "{ticket}")?);
+    let word = format!(in alloc; "{ticket} ")?;
+    if address.target().strip_prefix('/') != Some(word.trim_end()) {
+        return Err(Fail::new("the address of another ask"));
     }
-    Ok(format!(in alloc; "{ticket} for {}", address.target())?)
+    Ok(word)
 }
 
-/// What a step came to, as the tests write it.
+/// A step, as the tests write it.
 fn shown(alloc: Global, stepped: &Stepped) -> Result<String, Fail> {
     match stepped {
         Stepped::Came {
             ticket,
             address,
             ..
-        } => {
-            let answered = answered(alloc, *ticket, address)?;
-            Ok(format!(in alloc; "{answered} ")?)
-        }
+        } => answered(alloc, *ticket, address),
         Stepped::Waited => Ok(String::new(alloc)),
-        Stepped::Idle => Ok(format!(in alloc; "idle")?),
+        Stepped::Idle => Ok(String::from_str(alloc, "idle")?),
     }
 }
 
 /// Steps at most so many times: the tickets in the order in which their replies came, and the end.
-pub fn steps<W: Dial>(
-    alloc: Global,
-    pool: &mut Pool,
-    wire: &mut W,
-    most: u32,
-) -> Result<String, Fail>
+fn steps<W: Dial>(alloc: Global, pool: &mut Pool, wire: &mut W, most: u32) -> Result<String, Fail>
     requires suits { SuitsWire pool.old (W.state wire.old) }
     ensures suits { SuitsWire pool.new (W.state wire.new) }
 {
@@ -101,4 +98,20 @@ pub fn steps<W: Dial>(
         }
     }
     Ok(told)
+}
+
+/// Adds what so many steps come to at most.
+pub fn add_steps<W: Dial>(
+    alloc: Global,
+    pool: &mut Pool,
+    wire: &mut W,
+    most: u32,
+    told: &mut String,
+) -> Result<(), Fail>
+    requires suits { SuitsWire pool.old (W.state wire.old) }
+    ensures suits { SuitsWire pool.new (W.state wire.new) }
+{
+    let come = steps(alloc, pool, wire, most)?;
+    told.push_str(come.as_str())?;
+    Ok(())
 }

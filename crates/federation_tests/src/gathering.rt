@@ -8,115 +8,126 @@ use std::alloc::Global;
 use std::rc::Rc;
 use std::test::Fail;
 use template_fill::WebAddress;
+use text_base::OutOfMemory;
 
-/// What was gathered so far: the triples that are new, how many the fragments have together, and the
-/// further pages.
+/// What was gathered so far: all triples that were seen, those that are new, how many the fragments
+/// have together, and the further pages.
 #[derive(Drop)]
 struct Gathered {
+    seen: TripleSet,
     triples: Vec<Triple>,
     count: u128,
     nexts: Vec<WebAddress>,
 }
 
+/// Notes a triple, and says whether it was new.
+fn see(alloc: Global, triple: &Triple, seen: &mut TripleSet) -> Result<bool, OutOfMemory> {
+    seen.insert(triple.copy(alloc)?)
+}
+
+fn push_copy(alloc: Global, triple: &Triple, triples: &mut Vec<Triple>) -> Result<(), OutOfMemory> {
+    Ok(triples.push(triple.copy(alloc)?)?)
+}
+
 fn add_triples(
     alloc: Global,
     triples: &[Triple],
-    seen: &mut TripleSet,
-    new: &mut Vec<Triple>,
-) -> Result<(), Fail> {
+    gathered: &mut Gathered,
+) -> Result<(), OutOfMemory> {
     for triple in triples {
-        if seen.insert(triple.copy(alloc)?)? {
-            new.push(triple.copy(alloc)?)?;
+        if see(alloc, triple, &mut gathered.seen)? {
+            push_copy(alloc, triple, &mut gathered.triples)?;
         }
     }
     Ok(())
 }
 
-fn add_given(
-    alloc: Global,
-    given: Given,
-    seen: &mut TripleSet,
-    gathered: &mut Gathered,
-) -> Result<(), Fail> {
+fn push_next(next: Option<WebAddress>, nexts: &mut Vec<WebAddress>) -> Result<(), Fail> {
+    match next {
+        Some(next) => Ok(nexts.push(next)?),
+        None => Ok(()),
+    }
+}
+
+fn add_given(alloc: Global, given: Given, gathered: &mut Gathered) -> Result<(), Fail> {
     let Given {
         triples,
         count,
         next,
     } = given;
     gathered.count = gathered.count.saturating_add(u128::from(count));
-    if let Some(next) = next {
-        gathered.nexts.push(next)?;
-    }
-    add_triples(alloc, triples.as_slice(), seen, &mut gathered.triples)
+    push_next(next, &mut gathered.nexts)?;
+    Ok(add_triples(alloc, triples.as_slice(), gathered)?)
 }
 
-fn add_page(
-    alloc: Global,
-    address: &WebAddress,
-    seen: &mut TripleSet,
-    gathered: &mut Gathered,
-) -> Result<(), Fail> {
+fn add_page(alloc: Global, address: &WebAddress, gathered: &mut Gathered) -> Result<(), Fail> {
     let given = given_at(alloc, address)?;
-    add_given(alloc, given, seen, gathered)
+    add_given(alloc, given, gathered)
 }
 
-fn add_pages(
-    alloc: Global,
-    first: &WebAddress,
-    others: &[WebAddress],
-    seen: &mut TripleSet,
-    gathered: &mut Gathered,
-) -> Result<(), Fail> {
-    add_page(alloc, first, seen, gathered)?;
-    for other in others {
-        add_page(alloc, other, seen, gathered)?;
+fn add_pages(alloc: Global, addresses: &[WebAddress], gathered: &mut Gathered) -> Result<(), Fail> {
+    for address in addresses {
+        add_page(alloc, address, gathered)?;
     }
     Ok(())
 }
 
-/// Adds the triples that came before.
-fn add_taken(
+/// Notes the triples of a set.
+fn see_all(alloc: Global, triples: &TripleSet, seen: &mut TripleSet) -> Result<(), OutOfMemory> {
+    for triple in triples.as_set() {
+        see(alloc, triple, seen)?;
+    }
+    Ok(())
+}
+
+/// Notes the triples that came before.
+fn see_taken(
     alloc: Global,
     taken: &Option<Rc<TripleSet>>,
     seen: &mut TripleSet,
-) -> Result<(), Fail> {
-    if let Some(taken) = taken {
-        for triple in taken.as_set() {
-            seen.insert(triple.copy(alloc)?)?;
-        }
+) -> Result<(), OutOfMemory> {
+    match taken {
+        Some(taken) => see_all(alloc, taken, seen),
+        None => Ok(()),
     }
-    Ok(())
 }
 
-fn next_round(
-    alloc: Global,
-    nexts: Vec<WebAddress>,
-    seen: TripleSet,
-) -> Result<Option<Round>, Fail> {
+/// Gathers the pages of a round.
+fn gather(alloc: Global, round: Round, gathered: &mut Gathered) -> Result<(), Fail> {
+    let (first, others, taken) = round.into_parts();
+    see_taken(alloc, &taken, &mut gathered.seen)?;
+    add_page(alloc, &first, gathered)?;
+    add_pages(alloc, others.as_slice(), gathered)
+}
+
+/// The round of the further pages, if there are any.
+fn next_round(nexts: Vec<WebAddress>, taken: Rc<TripleSet>) -> Option<Round> {
     let mut nexts = nexts;
     if nexts.is_empty() {
-        return Ok(None);
+        return None;
     }
     let first = nexts.remove(0);
-    Ok(Some(Round::several(first, nexts, Rc::new(alloc, seen)?)))
+    Some(Round::several(first, nexts, taken))
 }
 
-fn page_of(alloc: Global, gathered: Gathered, seen: TripleSet) -> Result<JointPage, Fail> {
+fn page_of(alloc: Global, gathered: Gathered) -> Result<JointPage, Fail> {
     let Gathered {
+        seen,
         triples,
         count,
         nexts,
     } = gathered;
-    let next = next_round(alloc, nexts, seen)?;
+    let taken = Rc::new(alloc, seen)?;
     Ok(JointPage {
         triples: TripleList::from_vec(triples),
         count,
-        next,
+        next: next_round(nexts, taken),
     })
 }
 
 fn nothing(alloc: Global) -> Gathered {
     Gathered {
+        seen: TripleSet::new(alloc),
         triples: Vec::new(alloc),
         count: 0,
         nexts: Vec::new(alloc),
@@ -125,10 +136,7 @@ fn nothing(alloc: Global) -> Gathered {
 
 /// The page of a round.
 pub fn joint_page(alloc: Global, round: Round) -> Result<JointPage, Fail> {
-    let (first, others, taken) = round.into_parts();
-    let mut seen = TripleSet::new(alloc);
     let mut gathered = nothing(alloc);
-    add_taken(alloc, &taken, &mut seen)?;
-    add_pages(alloc, &first, others.as_slice(), &mut seen, &mut gathered)?;
-    page_of(alloc, gathered, seen)
+    gather(alloc, round, &mut gathered)?;
+    page_of(alloc, gathered)
 }

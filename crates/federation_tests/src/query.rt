@@ -5,42 +5,61 @@ use nquads_text::canonical;
 use pattern_parser::parse;
 use std::alloc::Global;
 use std::test::Fail;
+use text_base::OutOfMemory;
 
 const QUERY: &str = "SELECT * WHERE { ?x <http://e/k> ?y . ?y <http://e/n> ?z }";
+
+/// The rows over what `a` and `b` hold together.
+pub const OF_A_AND_B: &str = "<http://e/a> <http://e/b> \"B\" \n\
+    <http://e/a> <http://e/c> \"C\" \n\
+    <http://e/b> <http://e/c> \"C\" ";
 
 pub fn query_of(alloc: Global) -> Result<Query, Fail> {
     Ok(parse(alloc, QUERY.as_bytes())?)
 }
 
-/// Adds the term of a name in canonical form, with a space behind it.
-fn add_term(row: &Row, name: u32, bytes: &mut Vec<u8>) -> Result<(), Fail> {
+/// Adds the term of a name in canonical form, or `-`.
+fn add_term(row: &Row, name: u32, bytes: &mut Vec<u8>) -> Result<(), OutOfMemory> {
     match row.term(name) {
-        Some(term) => canonical(term, bytes)?,
-        None => bytes.push(b'-')?,
+        Some(term) => canonical(term, bytes),
+        None => Ok(bytes.push(b'-')?),
     }
-    bytes.push(b' ')?;
-    Ok(())
 }
 
-/// The three terms of a row.
-pub fn line(alloc: Global, row: &Row) -> Result<String, Fail> {
+/// The three terms of a row, with a space behind each.
+fn bytes_of(alloc: Global, row: &Row) -> Result<Vec<u8>, OutOfMemory> {
     let mut bytes = Vec::new(alloc);
     for name in 0..3u32 {
         add_term(row, name, &mut bytes)?;
+        bytes.push(b' ')?;
     }
-    Ok(String::from_str(alloc, str::from_utf8(bytes.as_slice())?)?)
+    Ok(bytes)
 }
 
-/// Fails where the rows, in ascending order, are others.
-pub fn check_rows(rows: &mut Vec<String>, wanted: &[&str]) -> Result<(), Fail> {
+/// The three terms of a row as text.
+fn line(alloc: Global, row: &Row) -> Result<String, Fail> {
+    Ok(String::from_utf8(bytes_of(alloc, row)?)?)
+}
+
+/// Adds the line of a row, if there is one, and says whether there was one.
+pub fn add_row(alloc: Global, row: Option<Row>, rows: &mut Vec<String>) -> Result<bool, Fail> {
+    let Some(row) = row else {
+        return Ok(false);
+    };
+    rows.push(line(alloc, &row)?)?;
+    Ok(true)
+}
+
+fn check_lines(lines: &str, wanted: &str) -> Result<(), Fail> {
+    if lines == wanted {
+        return Ok(());
+    }
+    Err(Fail::new(format_args!("wanted {wanted}, got {lines}")))
+}
+
+/// Fails where the rows, in ascending order, are not these lines.
+pub fn check_rows(alloc: Global, rows: &mut Vec<String>, wanted: &str) -> Result<(), Fail> {
     rows.sort()?;
-    if rows.len() != wanted.len() {
-        return Err(Fail::new(format_args!("{} rows", rows.len())));
-    }
-    for (row, wanted) in rows.iter().zip(wanted) {
-        if row.as_str() != *wanted {
-            return Err(Fail::new(format_args!("wanted {wanted}, got {row}")));
-        }
-    }
-    Ok(())
+    let lines = rows.as_slice().join(alloc, "\n")?;
+    check_lines(lines.as_str(), wanted)
 }

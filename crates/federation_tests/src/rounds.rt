@@ -1,22 +1,14 @@
 // A join in rounds over some of the servers.
-ghost use Rattle.std.specs.Prelude.{◌≡◌, ◌<◌, ◌+◌, ◌≤◌, ◌^◌, ◌-◌, IfOk, OnOk};
+ghost use Rattle.std.specs.Prelude.{◌≡◌, ◌<◌, ◌+◌, ◌≤◌, ◌^◌, ◌-◌, OnOk};
 
 use crate::gathering::joint_page;
-use crate::query::{check_rows, line, query_of};
+use crate::query::{OF_A_AND_B, add_row, check_rows, query_of};
 use crate::servers::form_list;
+use bgp_core::Query;
 use join_core::RoundJoin;
-use request_plan::{Answered, RoundAsk};
+use request_plan::{Answered, FormList, RoundAsk};
 use std::alloc::Global;
 use std::test::Fail;
-
-/// The join of the query over these servers, with a window of two.
-fn join_over(alloc: Global, servers: &str) -> Result<RoundJoin, Fail>
-    ensures { IfOk result (λ join. join.tickets ≡ 0) }
-{
-    let query = query_of(alloc)?;
-    let forms = form_list(alloc, servers)?;
-    Ok(RoundJoin::new(alloc, &query, forms, 2)?)
-}
 
 /// Takes the rows that wait, at most so many.
 fn take_rows(
@@ -27,13 +19,9 @@ fn take_rows(
 ) -> Result<(), Fail>
     ensures { join.new.tickets ≡ join.old.tickets }
 {
-    if most == 0 {
+    if most == 0 || !add_row(alloc, join.take_row(), rows)? {
         return Ok(());
     }
-    let Some(row) = join.take_row() else {
-        return Ok(());
-    };
-    rows.push(line(alloc, &row)?)?;
     take_rows(alloc, join, most - 1, rows)
 }
 
@@ -93,52 +81,100 @@ fn run(alloc: Global, join: &mut RoundJoin, rows: &mut Vec<String>) -> Result<u3
     Ok(rounds)
 }
 
-/// How many rounds a join over these servers asks for.
-fn rounds_over(alloc: Global, servers: &str, rows: &mut Vec<String>) -> Result<u32, Fail> {
-    let mut join = join_over(alloc, servers)?;
+/// How many rounds a join over the servers of these forms asks for, with a window of two.
+fn rounds_over(
+    alloc: Global,
+    query: &Query,
+    forms: FormList,
+    rows: &mut Vec<String>,
+) -> Result<u32, Fail> {
+    let mut join = RoundJoin::new(alloc, query, forms, 2)?;
     run(alloc, &mut join, rows)
 }
 
-/// Fails where a join over these servers asks for another number of rounds, or gives other rows.
-fn check(alloc: Global, servers: &str, rounds: u32, wanted: &[&str]) -> Result<(), Fail> {
-    let mut rows = Vec::new(alloc);
-    if rounds_over(alloc, servers, &mut rows)? != rounds {
-        return Err(Fail::new("another number of rounds"));
-    }
-    check_rows(&mut rows, wanted)
+/// How many rounds a join of the query over these servers asks for.
+fn rounds_of(alloc: Global, servers: &str, rows: &mut Vec<String>) -> Result<u32, Fail> {
+    let query = query_of(alloc)?;
+    let forms = form_list(alloc, servers)?;
+    rounds_over(alloc, &query, forms, rows)
 }
 
-/// The rows over all that the servers hold.
-const ALL: [&str; 3] = [
-    "<http://e/a> <http://e/b> \"B\" ",
-    "<http://e/a> <http://e/c> \"C\" ",
-    "<http://e/b> <http://e/c> \"C\" ",
+/// A join over these servers, which asks for so many rounds and gives these rows.
+struct Case {
+    servers: &'static str,
+    rounds: u32,
+    rows: &'static str,
+}
+
+/// Fails where a join over these servers asks for another number of rounds, or gives other rows.
+fn check(alloc: Global, case: &Case) -> Result<(), Fail> {
+    let mut rows = Vec::new(alloc);
+    let asked = rounds_of(alloc, case.servers, &mut rows)?;
+    if asked != case.rounds {
+        return Err(Fail::new(format_args!("{asked} rounds of {}", case.servers)));
+    }
+    check_rows(alloc, &mut rows, case.rows)
+}
+
+/// The row of `f` alone.
+const ONE: &str = "<http://e/a> <http://e/c> \"C\" ";
+
+static CASES: [Case; 8] = [
+    // Triples that two servers hold are counted once. The counts are 4 and 9, so the first pattern
+    // is chosen, of which `a` has a further page, with a triple that `b` gave before. Three triples
+    // are left, each of which asks for one round.
+    Case {
+        servers: "ab",
+        rounds: 6,
+        rows: OF_A_AND_B,
+    },
+    Case {
+        servers: "ba",
+        rounds: 6,
+        rows: OF_A_AND_B,
+    },
+    // A server that holds nothing changes nothing.
+    Case {
+        servers: "abc",
+        rounds: 6,
+        rows: OF_A_AND_B,
+    },
+    Case {
+        servers: "cab",
+        rounds: 6,
+        rows: OF_A_AND_B,
+    },
+    // One server gives its own rows. Both counts are 2, so the first pattern is chosen, whose two
+    // triples come in two rounds.
+    Case {
+        servers: "f",
+        rounds: 5,
+        rows: ONE,
+    },
+    Case {
+        servers: "cf",
+        rounds: 5,
+        rows: ONE,
+    },
+    // Servers that hold nothing give no row.
+    Case {
+        servers: "c",
+        rounds: 2,
+        rows: "",
+    },
+    Case {
+        servers: "cc",
+        rounds: 2,
+        rows: "",
+    },
 ];
 
-// The counts are 4 and 9, so the first pattern is chosen, of which `a` has a further page, with a triple
-// that `b` gave before. Three triples are left, each of which asks for one round.
 #[test]
-fn triples_that_two_servers_hold_are_counted_once(rt: HostRuntime) -> Result<(), Fail> {
-    check(rt.alloc(), "ab", 6, &ALL)?;
-    check(rt.alloc(), "ba", 6, &ALL)
-}
-
-#[test]
-fn a_server_that_holds_nothing_changes_nothing(rt: HostRuntime) -> Result<(), Fail> {
-    check(rt.alloc(), "abc", 6, &ALL)?;
-    check(rt.alloc(), "cab", 6, &ALL)
-}
-
-// Both counts are 2, so the first pattern is chosen, whose two triples come in two rounds.
-#[test]
-fn one_server_gives_its_own_rows(rt: HostRuntime) -> Result<(), Fail> {
-    let rows = ["<http://e/a> <http://e/c> \"C\" "];
-    check(rt.alloc(), "f", 5, &rows)?;
-    check(rt.alloc(), "cf", 5, &rows)
-}
-
-#[test]
-fn servers_that_hold_nothing_give_no_row(rt: HostRuntime) -> Result<(), Fail> {
-    check(rt.alloc(), "c", 2, &[])?;
-    check(rt.alloc(), "cc", 2, &[])
+fn servers_together_are_asked_in_so_many_rounds_and_give_these_rows(
+    rt: HostRuntime,
+) -> Result<(), Fail> {
+    for case in &CASES {
+        check(rt.alloc(), case)?;
+    }
+    Ok(())
 }

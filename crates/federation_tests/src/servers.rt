@@ -4,15 +4,14 @@
 
 use fragment_page::{Page, TripleList};
 use nquads_text::read_all;
-use rdf_terms::{Quad, Triple};
+use rdf_terms::Triple;
 use request_plan::FormList;
 use std::alloc::Global;
 use std::test::Fail;
 use template_fill::{Form, Template, WebAddress};
-use text_base::Text;
+use text_base::{OutOfMemory, Text};
 
 /// A page: its address, its triples as N-Quads, how many the fragment has, and the address of the next.
-#[derive(Clone, Copy)]
 struct Entry {
     address: &'static str,
     triples: &'static str,
@@ -21,7 +20,7 @@ struct Entry {
 }
 
 /// The page of a fragment without triples.
-const NOTHING: Entry = Entry {
+static NOTHING: Entry = Entry {
     address: "",
     triples: "",
     count: 0,
@@ -121,29 +120,21 @@ static PAGES: [Entry; 15] = [
     },
 ];
 
-fn entry_at(address: &str) -> Entry {
+fn entry_at(address: &str) -> &'static Entry {
     for entry in &PAGES {
         if entry.address == address {
-            return *entry;
+            return entry;
         }
     }
-    NOTHING
+    &NOTHING
 }
 
-fn quads_of(alloc: Global, text: &str) -> Result<Vec<Quad>, Fail> {
-    match read_all(alloc, text.as_bytes(), 100) {
-        Ok(quads) => Ok(quads),
-        Err(_) => Err(Fail::new("no data")),
-    }
-}
-
+/// The triples of N-Quads text.
 fn triples_of(alloc: Global, text: &str) -> Result<Vec<Triple>, Fail> {
-    let quads = quads_of(alloc, text)?;
-    let mut triples = Vec::new(alloc);
-    for quad in &quads {
-        triples.push(quad.triple.copy(alloc)?)?;
-    }
-    Ok(triples)
+    let Ok(quads) = read_all(alloc, text.as_bytes(), 100) else {
+        return Err(Fail::new("no data"));
+    };
+    Ok(quads.into_iter().map(|quad| quad.triple).collect(alloc)?)
 }
 
 fn next_of(alloc: Global, text: &str) -> Result<Option<WebAddress>, Fail> {
@@ -163,11 +154,21 @@ fn template_of(server: char) -> &'static str {
     }
 }
 
+/// The names of the three places.
+fn names(alloc: Global) -> Result<(Text, Text, Text), OutOfMemory> {
+    let (Ok(subject), Ok(predicate), Ok(object)) = (
+        Text::copy(alloc, "s"),
+        Text::copy(alloc, "p"),
+        Text::copy(alloc, "o"),
+    ) else {
+        return Err(OutOfMemory);
+    };
+    Ok((subject, predicate, object))
+}
+
 /// The form of a server.
 fn form_of(alloc: Global, server: char) -> Result<Form, Fail> {
-    let subject = Text::copy(alloc, "s")?;
-    let predicate = Text::copy(alloc, "p")?;
-    let object = Text::copy(alloc, "o")?;
+    let (subject, predicate, object) = names(alloc)?;
     match Template::read(alloc, template_of(server)) {
         Ok(template) => Ok(Form {
             template,
@@ -179,17 +180,16 @@ fn form_of(alloc: Global, server: char) -> Result<Form, Fail> {
     }
 }
 
-fn forms_of(alloc: Global, servers: &str) -> Result<Vec<Form>, Fail> {
-    let mut forms = Vec::new(alloc);
-    for server in servers.chars() {
-        forms.push(form_of(alloc, server)?)?;
-    }
-    Ok(forms)
+fn push_form(alloc: Global, server: char, forms: &mut Vec<Form>) -> Result<(), Fail> {
+    Ok(forms.push(form_of(alloc, server)?)?)
 }
 
 /// The forms of servers.
 pub fn form_list(alloc: Global, servers: &str) -> Result<FormList, Fail> {
-    let forms = forms_of(alloc, servers)?;
+    let mut forms = Vec::new(alloc);
+    for server in servers.chars() {
+        push_form(alloc, server, &mut forms)?;
+    }
     if forms.is_empty() {
         return Err(Fail::new("no server"));
     }
@@ -216,19 +216,25 @@ pub fn given_at(alloc: Global, address: &WebAddress) -> Result<Given, Fail> {
     })
 }
 
-/// The page at an address.
-pub fn page_at(alloc: Global, address: &WebAddress) -> Result<Page, Fail> {
-    let form = form_of(alloc, 'c')?;
+/// The page with this form on which a server gives so much.
+fn page_of(given: Given, form: Form) -> Page {
     let Given {
         triples,
         count,
         next,
-    } = given_at(alloc, address)?;
-    Ok(Page {
+    } = given;
+    Page {
         triples,
         count,
         next,
         form,
         version: None,
-    })
+    }
+}
+
+/// The page at an address.
+pub fn page_at(alloc: Global, address: &WebAddress) -> Result<Page, Fail> {
+    let form = form_of(alloc, 'c')?;
+    let given = given_at(alloc, address)?;
+    Ok(page_of(given, form))
 }

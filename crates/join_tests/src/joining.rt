@@ -1,7 +1,8 @@
 // Joins that were worked out by hand.
 ghost use Rattle.std.specs.Prelude.{◌≡◌, ◌≤◌};
 
-use crate::run::{NEWEST, OLDEST, Order, Seen, Setting, Way, finished, outs, same, sorted};
+use crate::run::{NEWEST, OLDEST, Order, Seen, Setting, Way, finished, outs};
+use crate::texts::same_lines;
 use std::alloc::Global;
 use std::test::Fail;
 use test_servers::chains;
@@ -96,13 +97,18 @@ static WORKED: [Worked; 8] = [
     },
 ];
 
+/// What is told of a query that asked for so many pages, which are too many or too few.
+fn other_asks(asks: usize, query: &str) -> Fail {
+    Fail::new(format_args!("{asks} asks: {query}"))
+}
+
 /// Fails where the join did not ask for so many pages, or found other rows.
 fn check_seen(alloc: Global, worked: &Worked, seen: &mut Seen) -> Result<(), Fail> {
     let asks = seen.asked.len();
     if asks != worked.asks {
-        return Err(Fail::new(format_args!("{asks} asks: {}", worked.query)));
+        return Err(other_asks(asks, worked.query));
     }
-    same(sorted(alloc, &mut seen.rows)?, worked.rows)
+    same_lines(alloc, &mut seen.rows, worked.rows)
 }
 
 fn check(alloc: Global, worked: &Worked, order: Order) -> Result<(), Fail> {
@@ -146,23 +152,32 @@ fn four(order: Order) -> Setting<'static>
     }
 }
 
-#[test]
-fn four_asks_are_out_at_once(rt: HostRuntime) -> Result<(), Fail> {
-    assert_eq!(rt; outs(rt.alloc(), &four(OLDEST), Way::Asks)?, 4);
+/// Fails where a join that goes a way does not leave so many asks out.
+fn check_outs(alloc: Global, setting: &Setting<'_>, way: Way, wanted: usize) -> Result<(), Fail>
+    requires { 1 ≤ setting.now.window }
+{
+    if outs(alloc, setting, way)? != wanted {
+        return Err(Fail::new("other asks are out"));
+    }
     Ok(())
 }
 
-/// The rows of the four patterns, where their asks are answered in this order.
-fn rows_in_order(alloc: Global, order: Order) -> Result<String, Fail> {
+#[test]
+fn four_asks_are_out_at_once(rt: HostRuntime) -> Result<(), Fail> {
+    check_outs(rt.alloc(), &four(OLDEST), Way::Asks, 4)
+}
+
+/// Fails where the four patterns have other rows, when their asks are answered in this order.
+fn check_in_order(alloc: Global, order: Order) -> Result<(), Fail> {
     let mut seen = finished(alloc, &four(order))?;
-    sorted(alloc, &mut seen.rows)
+    same_lines(alloc, &mut seen.rows, FOUR_ROWS)
 }
 
 #[test]
 fn answers_in_every_order_of_four_give_the_same_rows(rt: HostRuntime) -> Result<(), Fail> {
     for number in 0..24usize {
         let order = [number / 6, number / 2 % 3, number % 2, 0];
-        same(rows_in_order(rt.alloc(), order)?, FOUR_ROWS)?;
+        check_in_order(rt.alloc(), order)?;
     }
     Ok(())
 }
@@ -215,19 +230,29 @@ fn twenty(alloc: Global, window: u32) -> Result<(usize, usize, usize, bool), Fai
     counts_of(alloc, chains.as_str(), window)
 }
 
-// Three first pages, three further ones, two for each `b` and one for each `c`.
-#[test]
-fn the_deepest_node_is_started_first(rt: HostRuntime) -> Result<(), Fail> {
-    let (asks, rows, most, deep_first) = twenty(rt.alloc(), 1)?;
-    assert!(rt; asks == 66 && rows == 20 && most <= 11 && deep_first);
+/// How many pages twenty chains ask for: three first pages, three further ones, two for each `b` and one
+/// for each `c`.
+const ASKS_OF_TWENTY: usize = 66;
+
+/// Fails where twenty chains are not found whole, or `c10` is not asked for before `b11`, or is, as wanted.
+fn check_twenty(alloc: Global, window: u32, most: usize, deep_first: bool) -> Result<(), Fail>
+    requires { 1 ≤ window }
+{
+    let (asks, rows, most_open, is_deep_first) = twenty(alloc, window)?;
+    if asks != ASKS_OF_TWENTY || rows != 20 || most_open > most || is_deep_first != deep_first {
+        return Err(Fail::new("other counts"));
+    }
     Ok(())
 }
 
 #[test]
+fn the_deepest_node_is_started_first(rt: HostRuntime) -> Result<(), Fail> {
+    check_twenty(rt.alloc(), 1, 11, true)
+}
+
+#[test]
 fn a_window_of_two_starts_two_nodes(rt: HostRuntime) -> Result<(), Fail> {
-    let (asks, rows, _most, deep_first) = twenty(rt.alloc(), 2)?;
-    assert!(rt; asks == 66 && rows == 20 && !deep_first);
-    Ok(())
+    check_twenty(rt.alloc(), 2, 21, false)
 }
 
 /// A query of one pattern.
@@ -246,14 +271,12 @@ fn one_pattern(data: &'static str, query: &'static str) -> Setting<'static>
 #[test]
 fn one_page_of_one_triple_gives_one_row(rt: HostRuntime) -> Result<(), Fail> {
     let setting = one_pattern(KNOWS, "SELECT * WHERE { ?x <http://e/n> ?y }");
-    assert_eq!(rt; outs(rt.alloc(), &setting, Way::Row)?, 0);
-    Ok(())
+    check_outs(rt.alloc(), &setting, Way::Row, 0)
 }
 
 #[test]
 fn a_count_of_0_ends_the_node(rt: HostRuntime) -> Result<(), Fail> {
     let data = "<http://e/a> <http://e/p> <http://e/b> .\n";
     let setting = one_pattern(data, "SELECT * WHERE { ?s ?p ?o }");
-    assert_eq!(rt; outs(rt.alloc(), &setting, Way::NoCount)?, 0);
-    Ok(())
+    check_outs(rt.alloc(), &setting, Way::NoCount, 0)
 }

@@ -11,3 +11,5 @@ mod plan;
 mod random;
 #[cfg(test)]
 mod run;
+#[cfg(test)]
+mod texts;

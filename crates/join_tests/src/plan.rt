@@ -1,6 +1,7 @@
 // What a query asks for, by its definition: of each node, the first page of every pattern that is left,
 // and all pages of the pattern with the fewest triples, each of which opens a node.
 
+use crate::texts::add_all;
 use std::alloc::Global;
 use std::test::Fail;
 
@@ -24,6 +25,9 @@ pub enum Place {
 
 pub type Pattern = [Place; 3];
 
+/// At most four patterns.
+pub type Patterns = [Option<Pattern>; 4];
+
 /// The numbers of a triple's terms.
 pub type Fact = [usize; 3];
 
@@ -40,14 +44,26 @@ pub struct Data {
     pub page_size: usize,
 }
 
+/// A term's text.
 pub fn text_of(term: usize) -> &'static str {
-    TERMS.get(term).map_or("", |texts| texts.0)
+    match TERMS.get(term) {
+        Some((text, _)) => text,
+        None => "",
+    }
+}
+
+/// A term's text in an address.
+fn address_text(term: usize) -> &'static str {
+    match TERMS.get(term) {
+        Some((_, text)) => text,
+        None => "",
+    }
 }
 
 fn fixed_place(place: Place, binding: &Binding) -> Option<usize> {
     match place {
         Place::Term(term) => Some(term),
-        Place::Variable(variable) => binding.get(variable).copied().flatten(),
+        Place::Variable(variable) => *binding.get(variable)?,
     }
 }
 
@@ -72,32 +88,55 @@ fn fits_place(fixed: Option<usize>, term: usize) -> bool {
 }
 
 fn fits(fixed: &Fixed, fact: &Fact) -> bool {
-    fits_place(fixed[0], fact[0]) && fits_place(fixed[1], fact[1]) && fits_place(fixed[2], fact[2])
+    for i in 0..3usize {
+        if !fits_place(fixed[i], fact[i]) {
+            return false;
+        }
+    }
+    true
 }
 
 fn count(data: &Data, fixed: &Fixed) -> usize {
-    data.facts.iter().filter(|fact| fits(fixed, fact)).count()
+    let mut count = 0usize;
+    for fact in &data.facts {
+        if fits(fixed, fact) {
+            count = count.saturating_add(1);
+        }
+    }
+    count
 }
 
-/// The binding with a place become a term, where the place can.
-fn extended_place(place: Place, binding: &Binding, term: usize) -> Option<Binding> {
-    match fixed_place(place, binding) {
-        Some(wanted) => { if wanted == term { Some(*binding) } else { None } }
+/// Gives a variable a term, and says whether that is its term then.
+fn bind(bound: &mut Option<usize>, term: usize) -> bool {
+    match *bound {
+        Some(wanted) => wanted == term,
         None => {
-            let mut next = *binding;
-            if let Place::Variable(variable) = place {
-                *next.get_mut(variable)? = Some(term);
-            }
-            Some(next)
+            *bound = Some(term);
+            true
         }
+    }
+}
+
+/// Makes a place a term, and says whether it is this one then.
+fn extend(place: Place, binding: &mut Binding, term: usize) -> bool {
+    match place {
+        Place::Term(wanted) => wanted == term,
+        Place::Variable(variable) => match binding.get_mut(variable) {
+            Some(bound) => bind(bound, term),
+            None => false,
+        },
     }
 }
 
 /// The binding under which a pattern is a triple, where there is one.
 fn extended(pattern: &Pattern, binding: &Binding, fact: &Fact) -> Option<Binding> {
-    let first = extended_place(pattern[0], binding, fact[0])?;
-    let second = extended_place(pattern[1], &first, fact[1])?;
-    extended_place(pattern[2], &second, fact[2])
+    let mut next = *binding;
+    for i in 0..3usize {
+        if !extend(pattern[i], &mut next, fact[i]) {
+            return None;
+        }
+    }
+    Some(next)
 }
 
 /// Adds a parameter behind a mark, where there is a term, and says which mark stands before the next.
@@ -107,24 +146,42 @@ fn add_term(text: &mut String, mark: char, name: &str, term: Option<usize>) -> R
     };
     text.push(mark)?;
     text.push_str(name)?;
-    text.push_str(TERMS.get(term).map_or("", |texts| texts.1))?;
+    text.push_str(address_text(term))?;
     Ok('&')
 }
 
-/// Adds the parameters of three terms.
+/// Adds the parameters of three terms, and says which mark stands before the next.
 fn add_terms(text: &mut String, fixed: &Fixed) -> Result<char, Fail> {
     let mark = add_term(text, '?', "subject=", fixed[0])?;
     let mark = add_term(text, mark, "predicate=", fixed[1])?;
     add_term(text, mark, "object=", fixed[2])
 }
 
+/// Adds the number of a page behind a mark.
+fn add_page(alloc: Global, text: &mut String, mark: char, page: usize) -> Result<(), Fail> {
+    text.push(mark)?;
+    let number = page.to_string(alloc)?;
+    add_all(text, &["page=", number.as_str()])
+}
+
+/// Adds the parameters of a page.
+fn add_parameters(
+    alloc: Global,
+    text: &mut String,
+    fixed: &Fixed,
+    page: usize,
+) -> Result<(), Fail> {
+    let mark = add_terms(text, fixed)?;
+    if page > 1 {
+        return add_page(alloc, text, mark, page);
+    }
+    Ok(())
+}
+
 /// The address of a page.
 fn address(alloc: Global, fixed: &Fixed, page: usize) -> Result<String, Fail> {
     let mut text = String::from_str(alloc, "http://localhost/data")?;
-    let mark = add_terms(&mut text, fixed)?;
-    if page > 1 {
-        return Ok(format!(in alloc; "{text}{mark}page={page}")?);
-    }
+    add_parameters(alloc, &mut text, fixed, page)?;
     Ok(text)
 }
 
@@ -138,45 +195,59 @@ fn further_pages(triples: usize, page_size: usize) -> usize {
 }
 
 /// The place of the pattern with the fewest triples, the first of several.
-fn least(data: &Data, binding: &Binding, rest: &[Pattern]) -> usize {
+fn least(data: &Data, binding: &Binding, rest: &Patterns) -> usize {
     let mut best = 0;
     let mut fewest = usize::MAX;
-    for place in 0..rest.len() {
-        let triples = count(data, &fixed(&rest[place], binding));
-        if triples < fewest {
-            best = place;
-            fewest = triples;
+    for place in 0..4usize {
+        if let Some(pattern) = &rest[place] {
+            let triples = count(data, &fixed(pattern, binding));
+            if triples < fewest {
+                best = place;
+                fewest = triples;
+            }
         }
     }
     best
 }
 
 /// The patterns without that of a place.
-fn without(alloc: Global, rest: &[Pattern], place: usize) -> Result<Vec<Pattern>, Fail> {
-    let mut others = Vec::new(alloc);
-    for i in 0..rest.len() {
-        if i != place {
-            others.push(rest[i])?;
-        }
+fn without(rest: &Patterns, place: usize) -> Patterns {
+    let mut others = *rest;
+    if let Some(other) = others.get_mut(place) {
+        *other = None;
     }
-    Ok(others)
+    others
 }
 
 /// Whether a triple may be each of the patterns.
-fn are_askable(binding: &Binding, rest: &[Pattern]) -> bool {
-    rest.iter()
-        .all(|pattern| is_askable(&fixed(pattern, binding)))
+fn are_askable(binding: &Binding, rest: &Patterns) -> bool {
+    for pattern in rest {
+        if let Some(pattern) = pattern {
+            if !is_askable(&fixed(pattern, binding)) {
+                return false;
+            }
+        }
+    }
+    true
+}
+
+/// Notes a page.
+fn note(alloc: Global, fixed: &Fixed, page: usize, asked: &mut Vec<String>) -> Result<(), Fail> {
+    asked.push(address(alloc, fixed, page)?)?;
+    Ok(())
 }
 
 /// Notes the first pages of patterns.
 fn note_first(
     alloc: Global,
     binding: &Binding,
-    rest: &[Pattern],
+    rest: &Patterns,
     asked: &mut Vec<String>,
 ) -> Result<(), Fail> {
     for pattern in rest {
-        asked.push(address(alloc, &fixed(pattern, binding), 1)?)?;
+        if let Some(pattern) = pattern {
+            note(alloc, &fixed(pattern, binding), 1, asked)?;
+        }
     }
     Ok(())
 }
@@ -189,9 +260,22 @@ fn note_further(
     asked: &mut Vec<String>,
 ) -> Result<(), Fail> {
     for page in 0..further_pages(count(data, fixed), data.page_size) {
-        asked.push(address(alloc, fixed, page.saturating_add(2))?)?;
+        note(alloc, fixed, page.saturating_add(2), asked)?;
     }
     Ok(())
+}
+
+/// Notes the pages that a node asks for, which goes on with this pattern of those that are left.
+fn note_node(
+    alloc: Global,
+    data: &Data,
+    binding: &Binding,
+    rest: &Patterns,
+    best: &Pattern,
+    asked: &mut Vec<String>,
+) -> Result<(), Fail> {
+    note_first(alloc, binding, rest, asked)?;
+    note_further(alloc, data, &fixed(best, binding), asked)
 }
 
 /// Notes the addresses that are asked for under a binding, for at most so many patterns.
@@ -199,7 +283,7 @@ pub fn note_plan(
     alloc: Global,
     data: &Data,
     binding: &Binding,
-    rest: &[Pattern],
+    rest: &Patterns,
     most: u32,
     asked: &mut Vec<String>,
 ) -> Result<(), Fail> {
@@ -207,15 +291,14 @@ pub fn note_plan(
         return Ok(());
     }
     let place = least(data, binding, rest);
-    let Some(best) = rest.get(place) else {
+    let Some(Some(best)) = rest.get(place) else {
         return Ok(());
     };
-    note_first(alloc, binding, rest, asked)?;
-    note_further(alloc, data, &fixed(best, binding), asked)?;
-    let others = without(alloc, rest, place)?;
+    note_node(alloc, data, binding, rest, best, asked)?;
+    let others = without(rest, place);
     for fact in &data.facts {
         if let Some(next) = extended(best, binding, fact) {
-            note_plan(alloc, data, &next, others.as_slice(), most - 1, asked)?;
+            note_plan(alloc, data, &next, &others, most - 1, asked)?;
         }
     }
     Ok(())

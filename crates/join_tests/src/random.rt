@@ -1,13 +1,14 @@
 // Joins of random queries over random data, beside their solutions and what is to be asked by definition.
 ghost use Rattle.std.specs.Prelude.{◌≤◌, ◌<◌};
 
-use crate::plan::{Data, Fact, Pattern, Place, note_plan, text_of};
-use crate::run::{Order, Seen, Setting, finished, line, same, sorted};
+use crate::plan::{Data, Fact, Pattern, Patterns, Place, note_plan, text_of};
+use crate::run::{Order, Seen, Setting, finished, note_row};
+use crate::texts::{add_all, same_lines, sorted};
 use bgp_core::{Row, solutions};
 use pattern_parser::parse;
 use rand_core::utils::NextWord;
 use rand_pcg::Pcg32;
-use rdf_terms::Triple;
+use rdf_terms::{Quad, Triple};
 use std::alloc::Global;
 use std::test::Fail;
 use test_servers::quads_of;
@@ -51,29 +52,12 @@ fn random_pattern(generator: &mut Pcg32) -> Pattern {
 }
 
 /// One to four patterns.
-fn random_patterns(alloc: Global, generator: &mut Pcg32) -> Result<Vec<Pattern>, Fail> {
-    let mut patterns = Vec::new(alloc);
-    for _ in 0..below(generator, 4) + 1 {
-        patterns.push(random_pattern(generator))?;
+fn random_patterns(generator: &mut Pcg32) -> Patterns {
+    let mut patterns = [None; 4];
+    for place in 0..below(generator, 4) + 1 {
+        patterns[place] = Some(random_pattern(generator));
     }
-    Ok(patterns)
-}
-
-fn add_fact(fact: &Fact, text: &mut String) -> Result<(), Fail> {
-    for term in fact {
-        text.push_str(text_of(*term))?;
-        text.push(' ')?;
-    }
-    text.push_str(".\n")?;
-    Ok(())
-}
-
-fn text_of_data(alloc: Global, data: &Data) -> Result<String, Fail> {
-    let mut text = String::new(alloc);
-    for fact in &data.facts {
-        add_fact(fact, &mut text)?;
-    }
-    Ok(text)
+    patterns
 }
 
 const VARIABLES: [&str; 3] = ["?x", "?y", "?z"];
@@ -88,54 +72,97 @@ fn place_text(place: Place) -> &'static str {
 
 fn add_pattern(pattern: &Pattern, text: &mut String) -> Result<(), Fail> {
     for place in pattern {
-        text.push_str(place_text(*place))?;
-        text.push(' ')?;
+        add_all(text, &[place_text(*place), " "])?;
     }
-    text.push_str(". ")?;
+    text.push_str(".\n")?;
     Ok(())
 }
 
-fn text_of_query(alloc: Global, patterns: &[Pattern]) -> Result<String, Fail> {
-    let mut text = String::from_str(alloc, "SELECT * WHERE { ")?;
-    for pattern in patterns {
-        add_pattern(pattern, &mut text)?;
+/// The pattern without variables that is a triple.
+fn pattern_of(fact: &Fact) -> Pattern {
+    [
+        Place::Term(fact[0]),
+        Place::Term(fact[1]),
+        Place::Term(fact[2]),
+    ]
+}
+
+fn text_of_data(alloc: Global, data: &Data) -> Result<String, Fail> {
+    let mut text = String::new(alloc);
+    for fact in &data.facts {
+        add_pattern(&pattern_of(fact), &mut text)?;
     }
-    text.push('}')?;
     Ok(text)
 }
 
-fn triples_of(alloc: Global, data: &str) -> Result<Vec<Triple>, Fail> {
-    let quads = quads_of(alloc, data)?;
+fn add_query(patterns: &Patterns, text: &mut String) -> Result<(), Fail> {
+    text.push_str("SELECT * WHERE { ")?;
+    for pattern in patterns {
+        if let Some(pattern) = pattern {
+            add_pattern(pattern, text)?;
+        }
+    }
+    text.push('}')?;
+    Ok(())
+}
+
+fn text_of_query(alloc: Global, patterns: &Patterns) -> Result<String, Fail> {
+    let mut text = String::new(alloc);
+    add_query(patterns, &mut text)?;
+    Ok(text)
+}
+
+fn add_triple(alloc: Global, quad: &Quad, triples: &mut Vec<Triple>) -> Result<(), Fail> {
+    triples.push(quad.triple.copy(alloc)?)?;
+    Ok(())
+}
+
+fn triples_of(alloc: Global, quads: &[Quad]) -> Result<Vec<Triple>, Fail> {
     let mut triples = Vec::new(alloc);
-    for quad in &quads {
-        triples.push(quad.triple.copy(alloc)?)?;
+    for quad in quads {
+        add_triple(alloc, quad, &mut triples)?;
     }
     Ok(triples)
 }
 
-fn rows_of(alloc: Global, data: &str, query: &str) -> Result<Vec<Row>, Fail> {
-    let triples = triples_of(alloc, data)?;
+fn triples_of_text(alloc: Global, data: &str) -> Result<Vec<Triple>, Fail> {
+    let quads = quads_of(alloc, data)?;
+    triples_of(alloc, quads.as_slice())
+}
+
+/// The solutions of a query's text over triples.
+fn rows_over(alloc: Global, triples: &[Triple], query: &str) -> Result<Vec<Row>, Fail> {
     let query = parse(alloc, query.as_bytes())?;
-    Ok(solutions(alloc, triples.as_slice(), &query)?)
+    Ok(solutions(alloc, triples, &query)?)
+}
+
+fn rows_of(alloc: Global, data: &str, query: &str) -> Result<Vec<Row>, Fail> {
+    let triples = triples_of_text(alloc, data)?;
+    rows_over(alloc, triples.as_slice(), query)
 }
 
 fn lines_of(alloc: Global, rows: &[Row]) -> Result<Vec<String>, Fail> {
     let mut lines = Vec::new(alloc);
     for row in rows {
-        lines.push(line(alloc, row)?)?;
+        note_row(alloc, row, &mut lines)?;
     }
     Ok(lines)
 }
 
+/// The lines of the solutions of a query over data.
+fn lines_of_solutions(alloc: Global, data: &str, query: &str) -> Result<Vec<String>, Fail> {
+    let rows = rows_of(alloc, data, query)?;
+    lines_of(alloc, rows.as_slice())
+}
+
 /// The lines of the solutions of a query over data, sorted.
 fn solved(alloc: Global, data: &str, query: &str) -> Result<String, Fail> {
-    let rows = rows_of(alloc, data, query)?;
-    let mut lines = lines_of(alloc, rows.as_slice())?;
+    let mut lines = lines_of_solutions(alloc, data, query)?;
     sorted(alloc, &mut lines)
 }
 
 /// The addresses that a query asks for, sorted.
-fn planned(alloc: Global, data: &Data, patterns: &[Pattern]) -> Result<String, Fail> {
+fn planned(alloc: Global, data: &Data, patterns: &Patterns) -> Result<String, Fail> {
     let mut asked = Vec::new(alloc);
     note_plan(alloc, data, &[None; 3], patterns, 4, &mut asked)?;
     sorted(alloc, &mut asked)
@@ -145,7 +172,7 @@ fn planned(alloc: Global, data: &Data, patterns: &[Pattern]) -> Result<String, F
 #[derive(Drop)]
 struct Drawn {
     data: Data,
-    patterns: Vec<Pattern>,
+    patterns: Patterns,
     text: String,
     query: String,
     order: Order,
@@ -160,17 +187,12 @@ fn random_order(generator: &mut Pcg32) -> Order {
     ]
 }
 
-fn with_texts(
-    alloc: Global,
-    data: Data,
-    patterns: Vec<Pattern>,
-    order: Order,
-) -> Result<Drawn, Fail> {
+fn with_texts(alloc: Global, data: Data, patterns: &Patterns, order: Order) -> Result<Drawn, Fail> {
     let text = text_of_data(alloc, &data)?;
-    let query = text_of_query(alloc, patterns.as_slice())?;
+    let query = text_of_query(alloc, patterns)?;
     Ok(Drawn {
         data,
-        patterns,
+        patterns: *patterns,
         text,
         query,
         order,
@@ -181,25 +203,25 @@ fn draw(alloc: Global, seed: u64) -> Result<Drawn, Fail> {
     let mut generator = Pcg32::new(seed, 1);
     let size = below(&mut generator, 4) + 1;
     let facts = random_facts(alloc, &mut generator)?;
-    let patterns = random_patterns(alloc, &mut generator)?;
+    let patterns = random_patterns(&mut generator);
     let order = random_order(&mut generator);
     let data = Data {
         facts,
         page_size: size,
     };
-    with_texts(alloc, data, patterns, order)
+    with_texts(alloc, data, &patterns, order)
 }
 
 /// Fails where the join found other rows than the solutions.
 fn has_solutions(alloc: Global, drawn: &Drawn, seen: &mut Seen) -> Result<(), Fail> {
     let wanted = solved(alloc, drawn.text.as_str(), drawn.query.as_str())?;
-    same(sorted(alloc, &mut seen.rows)?, wanted.as_str())
+    same_lines(alloc, &mut seen.rows, wanted.as_str())
 }
 
 /// Fails where the join asked for other pages than those that are to be asked for.
 fn asked_the_plan(alloc: Global, drawn: &Drawn, seen: &mut Seen) -> Result<(), Fail> {
-    let wanted = planned(alloc, &drawn.data, drawn.patterns.as_slice())?;
-    same(sorted(alloc, &mut seen.asked)?, wanted.as_str())
+    let wanted = planned(alloc, &drawn.data, &drawn.patterns)?;
+    same_lines(alloc, &mut seen.asked, wanted.as_str())
 }
 
 fn check(alloc: Global, drawn: &Drawn, window: u32) -> Result<(), Fail>

@@ -2,14 +2,15 @@
 ghost use Rattle.std.specs.Prelude.{◌≡◌, ◌<◌, ◌+◌, ◌*◌, ◌≤◌, ◌^◌, ◌-◌, IfOk, OnOk};
 
 use crate::pages::page_at;
-use bgp_core::Row;
+use bgp_core::{Query, Row};
+use control_reader::Page;
 use join_core::Join;
 use nquads_text::canonical;
 use pattern_parser::parse;
 use request_plan::{Answered, Ask, FormList};
 use std::alloc::Global;
 use std::test::Fail;
-use template_fill::{Form, WebAddress};
+use template_fill::WebAddress;
 use test_servers::{BASE, server_of};
 use tpf_server::Server;
 
@@ -56,8 +57,8 @@ pub struct Seen {
 
 /// A join on its way: the server, the asks that are out, and how many were answered.
 #[derive(Drop)]
-struct Run {
-    server: Server,
+struct Run<'a> {
+    server: &'a Server,
     join: Join,
     held: Vec<Ask>,
     order: Order,
@@ -85,54 +86,45 @@ fn add_terms(row: &Row, bytes: &mut Vec<u8>) -> Result<(), Fail> {
     Ok(())
 }
 
-/// The terms of a row in canonical form, with a space behind each, in the order of the query's names.
-pub fn line(alloc: Global, row: &Row) -> Result<String, Fail> {
-    let mut bytes = Vec::new(alloc);
-    add_terms(row, &mut bytes)?;
-    Ok(String::from_str(alloc, str::from_utf8(bytes.as_slice())?)?)
+/// The text that bytes are.
+fn text_of_bytes(alloc: Global, bytes: &[u8]) -> Result<String, Fail> {
+    Ok(String::from_str(alloc, str::from_utf8(bytes)?)?)
 }
 
-/// Adds lines, with a line feed behind each.
-fn add_lines(lines: &[String], all: &mut String) -> Result<(), Fail> {
-    for line in lines {
-        all.push_str(line.as_str())?;
-        all.push('\n')?;
-    }
+/// The terms of a row in canonical form, with a space behind each, in the order of the query's names.
+fn line(alloc: Global, row: &Row) -> Result<String, Fail> {
+    let mut bytes = Vec::new(alloc);
+    add_terms(row, &mut bytes)?;
+    text_of_bytes(alloc, bytes.as_slice())
+}
+
+/// Notes the line of a row.
+pub fn note_row(alloc: Global, row: &Row, lines: &mut Vec<String>) -> Result<(), Fail> {
+    lines.push(line(alloc, row)?)?;
     Ok(())
 }
 
-/// Lines in ascending order, with a line feed behind each.
-pub fn sorted(alloc: Global, lines: &mut Vec<String>) -> Result<String, Fail> {
-    lines.sort()?;
-    let mut all = String::new(alloc);
-    add_lines(lines.as_slice(), &mut all)?;
-    Ok(all)
-}
-
-/// Fails where a text is not the one that is wanted.
-pub fn same(text: String, wanted: &str) -> Result<(), Fail> {
-    if text.as_str() != wanted {
-        return Err(Fail::new(format_args!("wanted {wanted:?}, got {text:?}")));
-    }
+/// Notes the address of an ask, which is then out.
+fn hold(alloc: Global, ask: Ask, held: &mut Vec<Ask>, asked: &mut Vec<String>) -> Result<(), Fail> {
+    asked.push(String::from_str(alloc, ask.address.text())?)?;
+    held.push(ask)?;
     Ok(())
 }
 
 /// Asks for the next page, if there is one now.
-fn ask_next(alloc: Global, run: &mut Run, seen: &mut Seen) -> Result<bool, Fail>
+fn ask_next(alloc: Global, run: &mut Run<'_>, seen: &mut Seen) -> Result<bool, Fail>
     requires { run.old.join.tickets < 2 ^ 64 - 1 }
     ensures { OnOk result (run.new.join.tickets ≤ run.old.join.tickets + 1) }
 {
     let Some(ask) = run.join.next_ask(alloc)? else {
         return Ok(false);
     };
-    seen.asked
-        .push(String::from_str(alloc, ask.address.text())?)?;
-    run.held.push(ask)?;
+    hold(alloc, ask, &mut run.held, &mut seen.asked)?;
     Ok(true)
 }
 
 /// Asks all that it can; more than so many pages at once are a fault.
-fn ask_all(alloc: Global, run: &mut Run, most: u32, seen: &mut Seen) -> Result<(), Fail>
+fn ask_all(alloc: Global, run: &mut Run<'_>, most: u32, seen: &mut Seen) -> Result<(), Fail>
     requires { run.old.join.tickets + most < 2 ^ 64 - 1 }
     ensures { OnOk result (run.new.join.tickets ≤ run.old.join.tickets + most) }
 {
@@ -146,15 +138,15 @@ fn ask_all(alloc: Global, run: &mut Run, most: u32, seen: &mut Seen) -> Result<(
 }
 
 /// Answers an ask with its page.
-fn answer_once(alloc: Global, run: &mut Run, ask: &Ask) -> Result<Answered, Fail>
+fn answer_once(alloc: Global, run: &mut Run<'_>, ask: &Ask) -> Result<Answered, Fail>
     ensures { run.new.join.tickets ≡ run.old.join.tickets }
 {
-    let page = page_at(alloc, &run.server, &ask.address)?;
+    let page = page_at(alloc, run.server, &ask.address)?;
     Ok(run.join.answer(alloc, ask.ticket, page)?)
 }
 
 /// Answers an ask with its page, twice: the second time its ticket is a stranger's.
-fn answer(alloc: Global, run: &mut Run, ask: &Ask) -> Result<(), Fail>
+fn answer(alloc: Global, run: &mut Run<'_>, ask: &Ask) -> Result<(), Fail>
     ensures { run.new.join.tickets ≡ run.old.join.tickets }
 {
     if answer_once(alloc, run, ask)? != Answered::Taken {
@@ -180,7 +172,7 @@ fn take_rows(alloc: Global, join: &mut Join, most: u32, rows: &mut Vec<String>) 
     let Some(row) = join.take_row() else {
         return Ok(());
     };
-    rows.push(line(alloc, &row)?)?;
+    note_row(alloc, &row, rows)?;
     take_rows(alloc, join, most - 1, rows)
 }
 
@@ -194,7 +186,7 @@ fn next_held(held: &mut Vec<Ask>, place: usize) -> Option<Ask> {
 }
 
 /// Answers the ask that is next in the order, if one is out.
-fn answer_next(alloc: Global, run: &mut Run) -> Result<(), Fail>
+fn answer_next(alloc: Global, run: &mut Run<'_>) -> Result<(), Fail>
     ensures { run.new.join.tickets ≡ run.old.join.tickets }
 {
     let place = run.order[(run.answered % 4) as usize];
@@ -206,7 +198,7 @@ fn answer_next(alloc: Global, run: &mut Run) -> Result<(), Fail>
 }
 
 /// One turn: it asks all that it can, answers one ask, and takes the rows.
-fn turn(alloc: Global, run: &mut Run, seen: &mut Seen) -> Result<(), Fail>
+fn turn(alloc: Global, run: &mut Run<'_>, seen: &mut Seen) -> Result<(), Fail>
     requires { run.old.join.tickets + 100 < 2 ^ 64 - 1 }
     ensures { OnOk result (run.new.join.tickets ≤ run.old.join.tickets + 100) }
 {
@@ -217,7 +209,7 @@ fn turn(alloc: Global, run: &mut Run, seen: &mut Seen) -> Result<(), Fail>
 }
 
 /// Goes on until the join is done, at most so many turns.
-fn go_on(alloc: Global, run: &mut Run, turns: u32, seen: &mut Seen) -> Result<(), Fail>
+fn go_on(alloc: Global, run: &mut Run<'_>, turns: u32, seen: &mut Seen) -> Result<(), Fail>
     requires { run.old.join.tickets + 100 * turns < 2 ^ 64 - 1 }
 {
     if turns == 0 {
@@ -231,14 +223,8 @@ fn go_on(alloc: Global, run: &mut Run, turns: u32, seen: &mut Seen) -> Result<()
 }
 
 /// Fails where the join is not done with one row, once its one ask was answered with its page.
-fn end_by_row(alloc: Global, run: &mut Run) -> Result<(), Fail>
-    requires { run.old.join.tickets < 2 ^ 64 - 1 }
-{
-    let Some(ask) = run.join.next_ask(alloc)? else {
-        return Err(Fail::new("no ask"));
-    };
-    let page = page_at(alloc, &run.server, &ask.address)?;
-    let answered = run.join.answer(alloc, ask.ticket, page)?;
+fn end_with_row(alloc: Global, run: &mut Run<'_>, ask: &Ask) -> Result<(), Fail> {
+    let answered = answer_once(alloc, run, ask)?;
     let row = run.join.take_row();
     if answered != Answered::Taken || row.is_none() || !run.join.is_done() {
         return Err(Fail::new("no end with a row"));
@@ -246,78 +232,135 @@ fn end_by_row(alloc: Global, run: &mut Run) -> Result<(), Fail>
     Ok(())
 }
 
-/// Answers an ask with its page, but for its count, which says that there is no triple.
-fn answer_without(alloc: Global, run: &mut Run, ask: &Ask) -> Result<Answered, Fail> {
-    let mut page = page_at(alloc, &run.server, &ask.address)?;
-    page.count = 0;
-    Ok(run.join.answer(alloc, ask.ticket, page)?)
-}
-
-/// Fails where the join is not done without a row, once its one ask was answered so.
-fn end_by_count(alloc: Global, run: &mut Run) -> Result<(), Fail>
+/// The same of a join that was not asked for its ask yet.
+fn end_by_row(alloc: Global, run: &mut Run<'_>) -> Result<(), Fail>
     requires { run.old.join.tickets < 2 ^ 64 - 1 }
 {
     let Some(ask) = run.join.next_ask(alloc)? else {
         return Err(Fail::new("no ask"));
     };
-    if answer_without(alloc, run, &ask)? != Answered::Taken || !run.join.is_done() {
+    end_with_row(alloc, run, &ask)
+}
+
+/// Answers an ask with its page, but for its count, which says that there is no triple.
+fn answer_without(alloc: Global, run: &mut Run<'_>, ask: &Ask) -> Result<Answered, Fail> {
+    let mut page = page_at(alloc, run.server, &ask.address)?;
+    page.count = 0;
+    Ok(run.join.answer(alloc, ask.ticket, page)?)
+}
+
+/// Fails where the join is not done without a row, once its one ask was answered so.
+fn end_by_count(alloc: Global, run: &mut Run<'_>) -> Result<(), Fail>
+    requires { run.old.join.tickets < 2 ^ 64 - 1 }
+{
+    let Some(ask) = run.join.next_ask(alloc)? else {
+        return Err(Fail::new("no ask"));
+    };
+    let answered = answer_without(alloc, run, &ask)?;
+    if answered != Answered::Taken || run.join.take_row().is_some() || !run.join.is_done() {
         return Err(Fail::new("no end by the count"));
     }
     Ok(())
 }
 
-/// Goes a way, and says how many asks are out then.
-fn go(alloc: Global, run: &mut Run, way: Way, seen: &mut Seen) -> Result<usize, Fail>
+/// Goes a way.
+fn go(alloc: Global, run: &mut Run<'_>, way: Way, seen: &mut Seen) -> Result<(), Fail>
     requires { run.old.join.tickets ≡ 0 }
 {
     match way {
-        Way::Whole => go_on(alloc, run, 5000, seen)?,
-        Way::Asks => ask_all(alloc, run, 100, seen)?,
-        Way::Row => end_by_row(alloc, run)?,
-        Way::NoCount => end_by_count(alloc, run)?,
+        Way::Whole => go_on(alloc, run, 5000, seen),
+        Way::Asks => ask_all(alloc, run, 100, seen),
+        Way::Row => end_by_row(alloc, run),
+        Way::NoCount => end_by_count(alloc, run),
     }
+}
+
+/// Goes a way, and says how many asks are out then.
+fn out_after(alloc: Global, run: &mut Run<'_>, way: Way, seen: &mut Seen) -> Result<usize, Fail>
+    requires { run.old.join.tickets ≡ 0 }
+{
+    go(alloc, run, way, seen)?;
     Ok(run.held.len())
 }
 
-/// The form of the server's start page.
-fn form_of(alloc: Global, server: &Server) -> Result<Form, Fail> {
+/// The server's start page.
+fn start_page(alloc: Global, server: &Server) -> Result<Page, Fail> {
     let base = WebAddress::read(alloc, BASE)?;
-    let page = page_at(alloc, server, &base)?;
-    Ok(page.form)
+    page_at(alloc, server, &base)
+}
+
+/// The form of the server's start page.
+fn forms_of(alloc: Global, server: &Server) -> Result<FormList, Fail> {
+    let page = start_page(alloc, server)?;
+    Ok(FormList::one(alloc, page.form))
 }
 
 /// A join of a query over a server.
+fn join_of(alloc: Global, server: &Server, query: &Query, window: u32) -> Result<Join, Fail>
+    requires { 1 ≤ window }
+    ensures { IfOk result (λ join. join.tickets ≡ 0) }
+{
+    let forms = forms_of(alloc, server)?;
+    Ok(Join::new(alloc, query, forms, window)?)
+}
+
+/// A join of a query's text over a server.
 fn join_over(alloc: Global, server: &Server, query: &str, window: u32) -> Result<Join, Fail>
     requires { 1 ≤ window }
     ensures { IfOk result (λ join. join.tickets ≡ 0) }
 {
     let query = parse(alloc, query.as_bytes())?;
-    let forms = FormList::one(alloc, form_of(alloc, server)?);
-    Ok(Join::new(alloc, &query, forms, window)?)
+    join_of(alloc, server, &query, window)
 }
 
-/// A join of a query over a server of its data.
-fn started(alloc: Global, setting: &Setting<'_>) -> Result<Run, Fail>
-    requires { 1 ≤ setting.now.window }
-    ensures { IfOk result (λ run. run.join.tickets ≡ 0) }
+/// A join over a server that begins.
+fn begun<'a>(alloc: Global, server: &'a Server, join: Join, order: Order) -> Run<'a>
+    ensures { result.join ≡ join }
 {
-    let server = server_of(alloc, setting.data, setting.page_size)?;
-    let join = join_over(alloc, &server, setting.query, setting.window)?;
-    Ok(Run {
+    Run {
         server,
         join,
         held: Vec::new(alloc),
-        order: setting.order,
+        order,
         answered: 0,
-    })
+    }
+}
+
+/// Goes a way with a join that begins, and says how many asks are out then.
+fn play_join(
+    alloc: Global,
+    server: &Server,
+    join: Join,
+    order: Order,
+    way: Way,
+    seen: &mut Seen,
+) -> Result<usize, Fail>
+    requires { join.tickets ≡ 0 }
+{
+    let mut run = begun(alloc, server, join, order);
+    out_after(alloc, &mut run, way, seen)
+}
+
+/// Goes a way with a join over a server, and says how many asks are out then.
+fn play_over(
+    alloc: Global,
+    server: &Server,
+    setting: &Setting<'_>,
+    way: Way,
+    seen: &mut Seen,
+) -> Result<usize, Fail>
+    requires { 1 ≤ setting.now.window }
+{
+    let join = join_over(alloc, server, setting.query, setting.window)?;
+    play_join(alloc, server, join, setting.order, way, seen)
 }
 
 /// Goes a way with a join, and says how many asks are out then.
 fn play(alloc: Global, setting: &Setting<'_>, way: Way, seen: &mut Seen) -> Result<usize, Fail>
     requires { 1 ≤ setting.now.window }
 {
-    let mut run = started(alloc, setting)?;
-    go(alloc, &mut run, way, seen)
+    let server = server_of(alloc, setting.data, setting.page_size)?;
+    play_over(alloc, &server, setting, way, seen)
 }
 
 fn nothing_seen(alloc: Global) -> Seen {

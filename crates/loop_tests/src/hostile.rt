@@ -1,91 +1,39 @@
 // A server of fragments whose peers send what no client should.
-use crate::fragments::{server_of, triples_in};
-use crate::links::{Link, ending, sent, staying, wire_of};
-use connections::NoSupply;
-use fragment_server::FragmentConnection;
+use crate::fragments::{served_seven, triples_in};
+use crate::links::{ENDING, Link, STAYING, sent};
 use script_wire::ScriptWire;
-use serve_loop::{Served, serve};
 use std::alloc::{AllocError, Global};
 use std::process::Abort;
 use std::sync::Wait;
 use std::test::Fail;
-use tpf_base::{Accept, Failing};
-
-/// Serves seven triples, three a page, at the links of a wire until so many connections have ended. Whether it
-/// ends then, and none of them for want of memory.
-fn serve_seven<R: Wait>(
-    rt: &R,
-    alloc: Global,
-    wire: &mut ScriptWire,
-    stop_after: u64,
-) -> Result<bool, Fail> {
-    let mut server = server_of(alloc, 7, 3)?;
-    if wire.listen("localhost", 80).is_err() {
-        return Err(Fail::new("no door"));
-    }
-    let mut supply = NoSupply::new();
-    let wanted = Served {
-        connections: stop_after,
-        starved: 0,
-    };
-    let ended = serve::<_, FragmentConnection, _, _>(
-        rt,
-        alloc,
-        &mut server,
-        &mut supply,
-        wire,
-        Some(stop_after),
-    );
-    Ok(ended == Ok(wanted))
-}
-
-/// Serves the same at these links, each of which is to be given, and gives the wire.
-pub fn served<R: Wait>(
-    rt: &R,
-    alloc: Global,
-    links: &[Link],
-    stop_after: u64,
-) -> Result<Box<ScriptWire>, Fail> {
-    let mut wire = wire_of(alloc, links, Failing::Never)?;
-    if serve_seven(rt, alloc, &mut wire, stop_after)? && wire.links() == links.len() {
-        Ok(wire)
-    } else {
-        Err(Fail::new("not so many links and connections"))
-    }
-}
 
 /// The status of a response, whether it closes the connection, and how many triples it has.
-fn shown_of(alloc: Global, head: &str, triples: usize) -> Result<String, AllocError> {
-    let status = head.split(' ').nth(1).unwrap_or("");
-    let closing = if head.contains("Connection: close") {
-        "closes"
-    } else {
-        "keeps"
-    };
-    format!(in alloc; "{status} {closing} {triples}")
-}
+type Shown<'a> = (&'a str, bool, usize);
 
-/// The same of what was sent, which may be nothing.
-fn shown(alloc: Global, text: &str) -> Result<String, AllocError> {
+/// What is sent where no whole head is.
+const NOTHING: Shown = ("nothing", false, 0);
+
+/// The same of what was sent, where a word may stand in place of a status.
+fn shown<'a>(sent: &'a [u8]) -> Shown<'a> {
+    let Ok(text) = str::from_utf8(sent) else {
+        return ("no text", false, 0);
+    };
     match text.split_once("\r\n\r\n") {
-        Some((head, _)) => shown_of(alloc, head, triples_in(text)),
-        None if text.is_empty() => String::from_str(alloc, "nothing"),
-        None => String::from_str(alloc, "no whole head"),
+        Some((head, _)) => (
+            head.split(' ').nth(1).unwrap_or(""),
+            head.contains("Connection: close"),
+            triples_in(text),
+        ),
+        None if text.is_empty() => NOTHING,
+        None => ("no whole head", false, 0),
     }
 }
 
 /// What was sent on each link of a wire is shown so.
-fn were_shown<R: Abort>(
-    rt: &R,
-    alloc: Global,
-    wire: &ScriptWire,
-    wanted: &[&str],
-) -> Result<(), Fail> {
+fn were_shown<R: Abort>(rt: &R, wire: &ScriptWire, wanted: &[Shown]) {
     for i in 0..wanted.len() {
-        let shown = shown(alloc, str::from_utf8(sent(wire, i))?)?;
-        assert_eq!(rt; shown.as_str(), wanted[i], "link {i}");
+        assert_eq!(rt; shown(sent(wire, i)), wanted[i], "link {i}");
     }
-    Ok(())
 }
 
 /// Serves at these links until one connection has ended, and what was sent on each is shown so.
@@ -93,141 +41,184 @@ fn serve_one<R: Wait + Abort>(
     rt: &R,
     alloc: Global,
     links: &[Link],
-    wanted: &[&str],
+    wanted: &[Shown],
 ) -> Result<(), Fail> {
-    let wire = served(rt, alloc, links, 1)?;
-    were_shown(rt, alloc, &wire, wanted)
-}
-
-/// Sends these pieces on one link, which ends behind them or stays.
-fn serve_pieces<R: Wait + Abort>(
-    rt: &R,
-    alloc: Global,
-    pieces: &[&str],
-    ends: bool,
-    wanted: &[&str],
-) -> Result<(), Fail> {
-    let link = Link {
-        after: 0,
-        pieces,
-        ends,
-        most: 65536,
-    };
-    serve_one(rt, alloc, &[link], wanted)
-}
-
-/// Sends a text on one link, which ends behind it or stays.
-fn send_one<R: Wait + Abort>(
-    rt: &R,
-    alloc: Global,
-    text: &str,
-    ends: bool,
-    wanted: &str,
-) -> Result<(), Fail> {
-    serve_pieces(rt, alloc, &[text], ends, &[wanted])
-}
-
-/// A request, whether its link ends behind it, and what is sent.
-const REQUESTS: [(&str, bool, &str); 8] = [
-    (
-        "GET /data HTTP/1.1\r\nHost: localhost\r\nHost: localhost\r\n\r\n",
-        false,
-        "400 closes 0",
-    ),
-    (
-        "GET /data HTTP/1.1\r\nHost: localhost\r\nContent-Length: 5\r\n\r\nabcde",
-        false,
-        "200 closes 3",
-    ),
-    (
-        "GET /data?subject=%zz HTTP/1.1\r\nHost: localhost\r\n\r\n",
-        true,
-        "400 keeps 0",
-    ),
-    (
-        "GET /data?subject=http%3A%2F%2Fe%2F%FF HTTP/1.1\r\nHost: localhost\r\n\r\n",
-        true,
-        "200 keeps 0",
-    ),
-    (
-        "GET /data?page=0002 HTTP/1.1\r\nHost: localhost\r\n\r\n",
-        true,
-        "200 keeps 3",
-    ),
-    (
-        "GET /data?page=99999999999999999999 HTTP/1.1\r\nHost: localhost\r\n\r\n",
-        true,
-        "404 keeps 0",
-    ),
-    ("GET /data HTTP/1.1\r\nHost: loc", true, "nothing"),
-    ("", true, "nothing"),
-];
-
-#[test]
-fn odd_requests_have_plain_answers(rt: HostRuntime) -> Result<(), Fail> {
-    for (request, ends, wanted) in REQUESTS {
-        send_one(&rt, rt.alloc(), request, ends, wanted)?;
-    }
+    let wire = served_seven(rt, alloc, links, 1)?;
+    were_shown(rt, &wire, wanted);
     Ok(())
-}
-
-/// A head with so many field lines.
-fn with_fields(alloc: Global, count: u32) -> Result<String, AllocError> {
-    let mut text = String::from_str(alloc, "GET /data HTTP/1.1\r\nHost: localhost\r\n")?;
-    for _ in 1..count {
-        text.push_str("A: b\r\n")?;
-    }
-    text.push_str("\r\n")?;
-    Ok(text)
-}
-
-/// A front of a head, without its end, of so many bytes.
-fn without_end(alloc: Global, bytes: usize) -> Result<String, AllocError> {
-    let mut text = String::from_str(alloc, "GET /data HTTP/1.1\r\nHost: localhost\r\nA: ")?;
-    for _ in text.len()..bytes {
-        text.push('a')?;
-    }
-    Ok(text)
-}
-
-#[test]
-fn a_head_has_at_most_64_fields(rt: HostRuntime) -> Result<(), Fail> {
-    for (fields, ends, wanted) in [(64, true, "200 keeps 3"), (65, false, "431 closes 0")] {
-        let text = with_fields(rt.alloc(), fields)?;
-        send_one(&rt, rt.alloc(), text.as_str(), ends, wanted)?;
-    }
-    Ok(())
-}
-
-#[test]
-fn a_head_without_an_end_is_refused_at_its_limit(rt: HostRuntime) -> Result<(), Fail> {
-    let text = without_end(rt.alloc(), 4194304)?;
-    send_one(&rt, rt.alloc(), text.as_str(), false, "431 closes 0")
 }
 
 const GET: &str = "GET /data HTTP/1.1\r\nHost: localhost\r\n\r\n";
 
-#[test]
-fn a_peer_that_never_reads_holds_up_no_page(rt: HostRuntime) -> Result<(), Fail> {
-    let links = [
-        Link {
-            most: 0,
-            ..staying(&[GET])
-        },
-        ending(&[GET]),
-    ];
-    serve_one(&rt, rt.alloc(), &links, &["nothing", "200 keeps 3"])
-}
+/// What comes on links, and what is sent on each.
+static CASES: [(&[Link], &[Shown]); 10] = [
+    (
+        &[Link {
+            pieces: &["GET /data HTTP/1.1\r\nHost: localhost\r\nHost: localhost\r\n\r\n"],
+            ..STAYING
+        }],
+        &[("400", true, 0)],
+    ),
+    (
+        &[Link {
+            pieces: &["GET /data HTTP/1.1\r\nHost: localhost\r\nContent-Length: 5\r\n\r\nabcde"],
+            ..STAYING
+        }],
+        &[("200", true, 3)],
+    ),
+    (
+        &[Link {
+            pieces: &["GET /data?subject=%zz HTTP/1.1\r\nHost: localhost\r\n\r\n"],
+            ..ENDING
+        }],
+        &[("400", false, 0)],
+    ),
+    (
+        &[Link {
+            pieces: &["GET /data?subject=http%3A%2F%2Fe%2F%FF HTTP/1.1\r\nHost: localhost\r\n\r\n"],
+            ..ENDING
+        }],
+        &[("200", false, 0)],
+    ),
+    (
+        &[Link {
+            pieces: &["GET /data?page=0002 HTTP/1.1\r\nHost: localhost\r\n\r\n"],
+            ..ENDING
+        }],
+        &[("200", false, 3)],
+    ),
+    (
+        &[Link {
+            pieces: &["GET /data?page=99999999999999999999 HTTP/1.1\r\nHost: localhost\r\n\r\n"],
+            ..ENDING
+        }],
+        &[("404", false, 0)],
+    ),
+    (
+        &[Link {
+            pieces: &["GET /data HTTP/1.1\r\nHost: loc"],
+            ..ENDING
+        }],
+        &[NOTHING],
+    ),
+    (
+        &[Link {
+            pieces: &[""],
+            ..ENDING
+        }],
+        &[NOTHING],
+    ),
+    (
+        &[
+            Link {
+                pieces: &[GET],
+                most: 0,
+                ..STAYING
+            },
+            Link {
+                pieces: &[GET],
+                ..ENDING
+            },
+        ],
+        &[NOTHING, ("200", false, 3)],
+    ),
+    (
+        &[
+            Link {
+                pieces: &[GET],
+                ..STAYING
+            },
+            // Nothing comes on the second link until a byte is sent on the first.
+            Link {
+                after: 1,
+                pieces: &[GET],
+                ..ENDING
+            },
+        ],
+        &[("200", false, 3), ("200", false, 3)],
+    ),
+];
 
 #[test]
-fn a_connection_that_is_kept_is_answered_before_its_end(rt: HostRuntime) -> Result<(), Fail> {
-    let links = [
-        staying(&[GET]),
-        // Nothing comes on the second link until a byte is sent on the first.
-        Link {
-            after: 1,
-            ..ending(&[GET])
+fn odd_peers_have_plain_answers_and_hold_up_no_other(rt: HostRuntime) -> Result<(), Fail> {
+    for (links, wanted) in &CASES {
+        serve_one(&rt, rt.alloc(), links, wanted)?;
+    }
+    Ok(())
+}
+
+/// A long head: a front, a piece so many times, and an end.
+struct LongHead<'a> {
+    front: &'a str,
+    piece: &'a str,
+    times: usize,
+    end: &'a str,
+}
+
+const HOST: &str = "GET /data HTTP/1.1\r\nHost: localhost\r\n";
+
+fn text_of(alloc: Global, head: &LongHead) -> Result<String, AllocError> {
+    let middle = head.piece.repeat(alloc, head.times)?;
+    [head.front, middle.as_str(), head.end].concat(alloc)
+}
+
+/// Sends a long head on one link, which ends behind it or stays.
+fn send_long<R: Wait + Abort>(
+    rt: &R,
+    alloc: Global,
+    head: &LongHead,
+    ends: bool,
+    wanted: Shown,
+) -> Result<(), Fail> {
+    let text = text_of(alloc, head)?;
+    let link = Link {
+        pieces: &[text.as_str()],
+        ends,
+        ..ENDING
+    };
+    serve_one(rt, alloc, &[link], &[wanted])
+}
+
+/// Long heads, whether their link ends behind them, and what is sent.
+static LONG_HEADS: [(LongHead, bool, Shown); 3] = [
+    // 64 fields.
+    (
+        LongHead {
+            front: HOST,
+            piece: "A: b\r\n",
+            times: 63,
+            end: "\r\n",
         },
-    ];
-    serve_one(&rt, rt.alloc(), &links, &["200 keeps 3", "200 keeps 3"])
+        true,
+        ("200", false, 3),
+    ),
+    (
+        LongHead {
+            front: HOST,
+            piece: "A: b\r\n",
+            times: 64,
+            end: "\r\n",
+        },
+        false,
+        ("431", true, 0),
+    ),
+    // 4194304 bytes without an end.
+    (
+        LongHead {
+            front: "GET /data HTTP/1.1\r\nHost: localhost\r\nA: ",
+            piece: "a",
+            times: 4194264,
+            end: "",
+        },
+        false,
+        ("431", true, 0),
+    ),
+];
+
+#[test]
+fn a_head_is_refused_at_its_limits(rt: HostRuntime) -> Result<(), Fail> {
+    for (head, ends, wanted) in &LONG_HEADS {
+        send_long(&rt, rt.alloc(), head, *ends, *wanted)?;
+    }
+    Ok(())
 }

@@ -12,4 +12,6 @@ mod reloads;
 #[cfg(test)]
 mod served;
 #[cfg(test)]
+mod serving;
+#[cfg(test)]
 mod turns;

@@ -7,6 +7,8 @@ use tpf_base::{Bytes, Failing};
 /// What a peer does on a link.
 #[derive(Clone, Copy)]
 pub struct Link<'a> {
+    /// How many links do so, one behind the other.
+    pub times: usize,
     /// On how many links a byte has to be sent before the first piece comes.
     pub after: u64,
     /// What comes on it.
@@ -17,34 +19,29 @@ pub struct Link<'a> {
     pub most: usize,
 }
 
-/// A link on which these pieces come, and then the end.
-pub const fn ending<'a>(pieces: &'a [&'a str]) -> Link<'a> {
-    Link {
-        after: 0,
-        pieces,
-        ends: true,
-        most: 65536,
-    }
-}
+/// A link on which the end comes behind the pieces.
+pub const ENDING: Link = Link {
+    times: 1,
+    after: 0,
+    pieces: &[],
+    ends: true,
+    most: 65536,
+};
 
-/// A link on which these pieces come, and then nothing more.
-pub const fn staying<'a>(pieces: &'a [&'a str]) -> Link<'a> {
-    Link {
-        after: 0,
-        pieces,
-        ends: false,
-        most: 65536,
-    }
-}
+/// A link on which nothing more comes behind the pieces.
+pub const STAYING: Link = Link {
+    ends: false,
+    ..ENDING
+};
 
-pub fn script(alloc: Global, link: &Link) -> Result<Script, Fail> {
-    let mut bytes = Vec::new(alloc);
+fn script(alloc: Global, link: &Link) -> Result<Script, Fail> {
+    let mut pieces = Vec::new(alloc);
     for piece in link.pieces {
-        bytes.push(Bytes::copy(alloc, piece.as_bytes())?)?;
+        pieces.push(Bytes::copy(alloc, piece.as_bytes())?)?;
     }
     Ok(Script {
         after: link.after,
-        pieces: bytes,
+        pieces,
         ends: link.ends,
         most: link.most,
     })
@@ -54,9 +51,20 @@ pub fn script(alloc: Global, link: &Link) -> Result<Script, Fail> {
 fn scripts_of(alloc: Global, links: &[Link]) -> Result<Vec<Script>, Fail> {
     let mut scripts = Vec::new(alloc);
     for link in links {
-        scripts.push(script(alloc, link)?)?;
+        for _ in 0..link.times {
+            scripts.push(script(alloc, link)?)?;
+        }
     }
     Ok(scripts)
+}
+
+/// How many links these are.
+pub fn count_of(links: &[Link]) -> usize {
+    let mut count: usize = 0;
+    for link in links {
+        count = count.saturating_add(link.times);
+    }
+    count
 }
 
 /// A wire with these links.

@@ -1,14 +1,16 @@
 // Data that are read again while links are served.
-use crate::fragments::{reloading, table_with, triples_in};
-use crate::links::{Link, ending, sent, wire_of};
+use crate::fragments::{served, table_with, triples_in};
+use crate::links::{ENDING, Link, sent};
 use connections::MemSupply;
-use fragment_server::FragmentConnection;
+use fragment_server::FragmentServer;
+use hydra_controls::Config;
 use script_wire::ScriptWire;
-use serve_loop::{Served, serve};
 use std::alloc::Global;
 use std::sync::Wait;
 use std::test::Fail;
-use tpf_base::{Accept, Failing};
+use test_servers::{BASE, config_at};
+use tpf_base::{Failing, Text};
+use tpf_server::Server;
 use triple_table::Table;
 
 const GET: &str = "GET /data HTTP/1.1\r\nHost: localhost\r\n\r\n";
@@ -20,61 +22,54 @@ const SECOND: &str =
 
 const FAILED: &str = "HTTP/1.1 500 Internal Server Error\r\n";
 
+/// A configuration of a thousand triples a page, with a path for reloads.
+fn config(alloc: Global) -> Result<Config, Fail> {
+    let path = Text::copy(alloc, "/reload")?;
+    match config_at(alloc, BASE, 1000)?.with_reload(path) {
+        Some(config) => Ok(config),
+        None => Err(Fail::new("no configuration")),
+    }
+}
+
+/// A server of a thousand triples, as a configuration says.
+fn server_with(alloc: Global, config: Config) -> Result<FragmentServer, Fail> {
+    let table = table_with(alloc, 1000)?;
+    Ok(FragmentServer::new(Server::new(alloc, table, config)?))
+}
+
+/// The same, whose data are read again at a request for `/reload`.
+fn server(alloc: Global) -> Result<FragmentServer, Fail> {
+    let config = config(alloc)?;
+    server_with(alloc, config)
+}
+
 /// A supply that has a table of two triples, once.
 fn supply(alloc: Global) -> Result<MemSupply<Table>, Fail> {
-    let mut tables = Vec::new(alloc);
-    tables.push(table_with(alloc, 2)?)?;
+    let tables = Vec::from_array(alloc, [table_with(alloc, 2)?])?;
     Ok(MemSupply::new(tables, Failing::Never))
 }
 
-/// Serves a thousand triples, a thousand a page, at the links of a wire until so many connections have
-/// ended, with two triples at a reload. Whether it ends then, and none of them for want of memory.
-fn serve_reloading<R: Wait>(
-    rt: &R,
-    alloc: Global,
-    wire: &mut ScriptWire,
-    links: u64,
-) -> Result<bool, Fail> {
-    let mut server = reloading(alloc, 1000, 1000)?;
+/// Serves a thousand triples, and two behind a reload, at these links until all have ended.
+fn reloaded<R: Wait>(rt: &R, alloc: Global, links: &[Link]) -> Result<Box<ScriptWire>, Fail> {
     let mut supply = supply(alloc)?;
-    if wire.listen("localhost", 80).is_err() {
-        return Err(Fail::new("no door"));
-    }
-    let wanted = Served {
-        connections: links,
-        starved: 0,
-    };
-    let ended = serve::<_, FragmentConnection, _, _>(
+    let mut server = server(alloc)?;
+    served(
         rt,
         alloc,
         &mut server,
         &mut supply,
-        wire,
-        Some(links),
-    );
-    Ok(ended == Ok(wanted))
-}
-
-/// Serves the same at these links until all have ended, and gives the wire.
-fn served<R: Wait>(rt: &R, alloc: Global, links: &[Link]) -> Result<Box<ScriptWire>, Fail> {
-    let mut wire = wire_of(alloc, links, Failing::Never)?;
-    if serve_reloading(rt, alloc, &mut wire, links.len() as u64)? && wire.links() == links.len() {
-        Ok(wire)
-    } else {
-        Err(Fail::new("not all links were served"))
-    }
-}
-
-/// What stands in front of a text, and what stands behind it.
-fn split<'a>(whole: &'a str, at: &str) -> Result<(&'a str, &'a str), Fail> {
-    match whole.split_once(at) {
-        Some(parts) => Ok(parts),
-        None => Err(Fail::new("a part is missing")),
-    }
+        links,
+        links.len() as u64,
+    )
 }
 
 /// How many triples a page has, and whether it is of the first version and of the second.
-fn page(text: &str) -> (usize, bool, bool) {
+type Page = (usize, bool, bool);
+
+/// A page of a thousand triples of the first version, and one of two of the second.
+const PAGES: Option<[Page; 2]> = Some([(1000, true, false), (2, false, true)]);
+
+fn page(text: &str) -> Page {
     (
         triples_in(text),
         text.contains("owl#versionInfo> \"1\" "),
@@ -82,48 +77,52 @@ fn page(text: &str) -> (usize, bool, bool) {
     )
 }
 
-/// The page in front of two reloads, and the one behind them. Between their answers stands nothing.
-fn pages_around<'a>(text: &'a str) -> Result<(&'a str, &'a str), Fail> {
-    let (first, rest) = split(text, SECOND)?;
-    let (between, last) = split(rest, FAILED)?;
+/// The page in front of two reloads, and the one behind them, where nothing stands between their
+/// answers.
+fn pages_around(sent: &[u8]) -> Option<[Page; 2]> {
+    let text = str::from_utf8(sent).ok()?;
+    let (first, rest) = text.split_once(SECOND)?;
+    let (between, last) = rest.split_once(FAILED)?;
     if between.is_empty() {
-        Ok((first, last))
+        Some([page(first), page(last)])
     } else {
-        Err(Fail::new("something between the answers to two reloads"))
+        None
     }
 }
 
 #[test]
 fn a_second_reload_has_no_table(rt: HostRuntime) -> Result<(), Fail> {
-    let links = [ending(&[GET, RELOAD, RELOAD, GET])];
-    let wire = served(&rt, rt.alloc(), &links)?;
-    let (first, last) = pages_around(str::from_utf8(sent(&wire, 0))?)?;
-    let pages = [page(first), page(last)];
-    assert_eq!(rt; pages, [(1000, true, false), (2, false, true)]);
+    let links = [Link {
+        pieces: &[GET, RELOAD, RELOAD, GET],
+        ..ENDING
+    }];
+    let wire = reloaded(&rt, rt.alloc(), &links)?;
+    assert_eq!(rt; pages_around(sent(&wire, 0)), PAGES);
     Ok(())
 }
 
-/// The page behind the answer to a reload, in front of which stands nothing.
-fn page_behind<'a>(text: &'a str) -> Result<&'a str, Fail> {
-    match text.strip_prefix(SECOND) {
-        Some(last) => Ok(last),
-        None => Err(Fail::new("no answer to a reload comes first")),
-    }
+/// The page that one link is sent, and the one behind the answer to a reload on another, in front
+/// of which stands nothing.
+fn pages_beside(one: &[u8], other: &[u8]) -> Option<[Page; 2]> {
+    let first = str::from_utf8(one).ok()?;
+    let last = str::from_utf8(other).ok()?.strip_prefix(SECOND)?;
+    Some([page(first), page(last)])
 }
 
 #[test]
 fn a_page_ends_under_the_version_that_it_began_with(rt: HostRuntime) -> Result<(), Fail> {
     let links = [
         Link {
+            pieces: &[GET],
             most: 1000,
-            ..ending(&[GET])
+            ..ENDING
         },
-        ending(&[RELOAD, GET]),
+        Link {
+            pieces: &[RELOAD, GET],
+            ..ENDING
+        },
     ];
-    let wire = served(&rt, rt.alloc(), &links)?;
-    let first = str::from_utf8(sent(&wire, 0))?;
-    let last = page_behind(str::from_utf8(sent(&wire, 1))?)?;
-    let pages = [page(first), page(last)];
-    assert_eq!(rt; pages, [(1000, true, false), (2, false, true)]);
+    let wire = reloaded(&rt, rt.alloc(), &links)?;
+    assert_eq!(rt; pages_beside(sent(&wire, 0), sent(&wire, 1)), PAGES);
     Ok(())
 }

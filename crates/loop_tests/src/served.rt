@@ -1,9 +1,10 @@
 // A server of echoes over links that do what scripts say.
-use crate::links::{Link, ending, script, sent, staying, wire_of};
+use crate::links::{ENDING, Link, STAYING, sent, wire_of};
+use crate::serving::{Service, ended_after};
 use connections::{Converses, NoSupply};
 use echo_server::{Echo, EchoServer};
-use script_wire::{Script, ScriptWire};
-use serve_loop::{ServeFault, Served, serve};
+use script_wire::ScriptWire;
+use serve_loop::{ServeFault, serve};
 use std::alloc::Global;
 use std::process::Abort;
 use std::sync::Wait;
@@ -11,12 +12,7 @@ use std::test::Fail;
 use tpf_base::{Accept, Failing};
 
 /// Serves echoes at the door of a wire with these scripts until so many connections have ended.
-fn echoed<R: Wait>(
-    rt: &R,
-    alloc: Global,
-    wire: &mut ScriptWire,
-    stop_after: u64,
-) -> Option<Result<Served, ServeFault>> {
+fn echoed<R: Wait>(rt: &R, alloc: Global, wire: &mut ScriptWire, stop_after: u64) -> Service {
     if wire.listen("localhost", 80).is_err() {
         return None;
     }
@@ -45,194 +41,254 @@ fn an_echo_hands_over_what_it_was_fed(rt: HostRuntime) -> Result<(), Fail> {
     feed_echo(&rt, &server, &mut echo)
 }
 
-/// What a service answers that ended after so many connections, none of them for want of memory.
-const fn served(connections: u64) -> Option<Result<Served, ServeFault>> {
-    Some(Ok(Served {
-        connections,
-        starved: 0,
-    }))
-}
+/// From one link up to another, the text that is sent on each.
+struct Sent<'a>(usize, usize, &'a str);
 
-/// Each text was sent on the link with its place, and no other link was given.
-fn were_sent<R: Abort>(rt: &R, wire: &ScriptWire, texts: &[&str]) {
-    assert_eq!(rt; wire.links(), texts.len());
-    for i in 0..texts.len() {
-        assert_eq!(rt; sent(wire, i), texts[i].as_bytes(), "link {i}");
-    }
-}
-
-/// Serves echoes at a wire until so many connections have ended, and each text was sent on its link then.
-fn echo_to<R: Wait + Abort>(
-    rt: &R,
-    alloc: Global,
-    wire: &mut ScriptWire,
+/// A service of echoes at a wire.
+struct Case<'a> {
+    /// What it shows.
+    shows: &'a str,
+    /// What comes on the links.
+    links: &'a [Link<'a>],
+    /// The numbers of the calls that fail.
+    failing: &'a [u64],
+    /// After how many connections it stops.
     stop_after: u64,
-    texts: &[&str],
-) {
-    assert_eq!(rt; echoed(rt, alloc, wire, stop_after), served(stop_after));
-    were_sent(rt, wire, texts);
+    /// The fault with which it ends, where it does not end after so many connections, none of
+    /// them for want of memory.
+    fault: Option<ServeFault>,
+    /// How many links are given.
+    given: usize,
+    /// What is sent on them.
+    sent: &'a [Sent<'a>],
 }
 
-#[test]
-fn links_whose_bytes_come_by_turns_get_their_own_back(rt: HostRuntime) -> Result<(), Fail> {
-    let links = [
-        ending(&["ab", "", "cd"]),
-        Link {
-            most: 1,
-            ..ending(&["12", "34", "5"])
-        },
-    ];
-    let mut wire = wire_of(rt.alloc(), &links, Failing::Never)?;
-    echo_to(&rt, rt.alloc(), &mut wire, 2, &["abcd", "12345"]);
-    Ok(())
-}
+static CASES: [Case; 9] = [
+    Case {
+        shows: "links whose bytes come by turns get their own back",
+        links: &[
+            Link {
+                pieces: &["ab", "", "cd"],
+                ..ENDING
+            },
+            Link {
+                pieces: &["12", "34", "5"],
+                most: 1,
+                ..ENDING
+            },
+        ],
+        failing: &[],
+        stop_after: 2,
+        fault: None,
+        given: 2,
+        sent: &[Sent(0, 1, "abcd"), Sent(1, 2, "12345")],
+    },
+    Case {
+        shows: "a peer that never reads holds up no other",
+        links: &[
+            Link {
+                pieces: &["abc"],
+                most: 0,
+                ..STAYING
+            },
+            Link {
+                pieces: &["12", "34"],
+                ..ENDING
+            },
+        ],
+        failing: &[],
+        stop_after: 1,
+        fault: None,
+        given: 2,
+        sent: &[Sent(0, 1, ""), Sent(1, 2, "1234")],
+    },
+    Case {
+        shows: "a door that fails ends the service",
+        links: &[Link {
+            pieces: &["abc"],
+            ..ENDING
+        }],
+        failing: &[2],
+        stop_after: 1,
+        fault: Some(ServeFault::Wire),
+        given: 0,
+        sent: &[],
+    },
+    Case {
+        shows: "a door that fails behind a turn ends the service",
+        links: &[
+            Link {
+                pieces: &["abc"],
+                ..ENDING
+            },
+            Link {
+                pieces: &["12"],
+                ..ENDING
+            },
+        ],
+        // The listen, an accept, a receive, and then the accept behind that turn.
+        failing: &[4],
+        stop_after: 1,
+        fault: Some(ServeFault::Wire),
+        given: 1,
+        sent: &[],
+    },
+    Case {
+        shows: "all that wait are accepted behind the first turn",
+        // The first link ends in the third turn.
+        links: &[Link {
+            times: 20,
+            pieces: &["a"],
+            ..ENDING
+        }],
+        failing: &[],
+        stop_after: 1,
+        fault: None,
+        given: 20,
+        sent: &[],
+    },
+    Case {
+        shows: "a link that fails ends alone",
+        links: &[
+            Link {
+                pieces: &["abc"],
+                ..ENDING
+            },
+            Link {
+                pieces: &["12", "34"],
+                ..ENDING
+            },
+            Link {
+                pieces: &["xy"],
+                most: 1,
+                ..ENDING
+            },
+        ],
+        // The listen, an accept, a receive, three accepts behind that turn, an accept, and the
+        // send on the first link.
+        failing: &[8],
+        stop_after: 3,
+        fault: None,
+        given: 3,
+        sent: &[Sent(0, 1, ""), Sent(1, 2, "1234"), Sent(2, 3, "xy")],
+    },
+    Case {
+        shows: "sixteen links of a round are stepped in a turn",
+        links: &[
+            Link {
+                pieces: &["a", "b"],
+                ..ENDING
+            },
+            Link {
+                times: 39,
+                pieces: &["a", "b", "c", "d"],
+                ..STAYING
+            },
+        ],
+        failing: &[],
+        stop_after: 1,
+        fault: None,
+        given: 40,
+        // All are stepped in the first three turns, in which they are new, and then 32 to 39, 0 to
+        // 15, 16 to 31, 32 to 39, and 0 to 15, where the first link ends.
+        sent: &[Sent(0, 16, "ab"), Sent(16, 32, "a"), Sent(32, 40, "ab")],
+    },
+    Case {
+        shows: "a link that comes late is answered before a round has ended",
+        links: &[
+            Link {
+                pieces: &["a"],
+                ..ENDING
+            },
+            Link {
+                times: 255,
+                pieces: &["a", "b", "c", "d"],
+                ..STAYING
+            },
+            // There is room for it only when the first has ended.
+            Link {
+                pieces: &["z"],
+                ..ENDING
+            },
+        ],
+        failing: &[],
+        stop_after: 2,
+        fault: None,
+        given: 257,
+        // It was answered in the two turns behind its accept; its end was seen when its place in
+        // the round came.
+        sent: &[Sent(256, 257, "z"), Sent(0, 256, "a")],
+    },
+    Case {
+        shows: "a link waits at the door while 256 are live",
+        links: &[
+            // It stalls six hundred times before it ends.
+            Link {
+                pieces: &[""; 300],
+                ..ENDING
+            },
+            Link {
+                times: 256,
+                ..STAYING
+            },
+        ],
+        failing: &[],
+        stop_after: 1,
+        fault: None,
+        given: 256,
+        sent: &[],
+    },
+];
 
-#[test]
-fn a_peer_that_never_reads_holds_up_no_other(rt: HostRuntime) -> Result<(), Fail> {
-    let links = [
-        Link {
-            most: 0,
-            ..staying(&["abc"])
-        },
-        ending(&["12", "34"]),
-    ];
-    let mut wire = wire_of(rt.alloc(), &links, Failing::Never)?;
-    echo_to(&rt, rt.alloc(), &mut wire, 1, &["", "1234"]);
-    Ok(())
-}
-
-/// The call with this number fails.
-fn failing_at(alloc: Global, call: u64) -> Result<Failing, Fail> {
-    Ok(Failing::At(Vec::from_slice(alloc, &[call])?))
-}
-
-/// What a service of echoes answers at these links that ends with the first connection, and how many links were given.
-fn echoed_at<R: Wait>(
-    rt: &R,
-    alloc: Global,
-    links: &[Link],
-    failing: Failing,
-) -> Result<(Option<Result<Served, ServeFault>>, usize), Fail> {
-    let mut wire = wire_of(alloc, links, failing)?;
-    let ended = echoed(rt, alloc, &mut wire, 1);
-    Ok((ended, wire.links()))
-}
-
-#[test]
-fn a_door_that_fails_ends_the_service(rt: HostRuntime) -> Result<(), Fail> {
-    let failing = failing_at(rt.alloc(), 2)?;
-    let came = echoed_at(&rt, rt.alloc(), &[ending(&["abc"])], failing)?;
-    assert_eq!(rt; came, (Some(Err(ServeFault::Wire)), 0));
-    Ok(())
-}
-
-#[test]
-fn a_door_that_fails_behind_a_turn_ends_the_service(rt: HostRuntime) -> Result<(), Fail> {
-    // The listen, an accept, a receive, and then the accept behind that turn.
-    let failing = failing_at(rt.alloc(), 4)?;
-    let came = echoed_at(
-        &rt,
-        rt.alloc(),
-        &[ending(&["abc"]), ending(&["12"])],
-        failing,
-    )?;
-    assert_eq!(rt; came, (Some(Err(ServeFault::Wire)), 1));
-    Ok(())
-}
-
-#[test]
-fn all_that_wait_are_accepted_behind_the_first_turn(rt: HostRuntime) -> Result<(), Fail> {
-    let links = [ending(&["a"]); 20];
-    // The first link ends in the third turn.
-    let came = echoed_at(&rt, rt.alloc(), &links, Failing::Never)?;
-    assert_eq!(rt; came, (served(1), 20));
-    Ok(())
-}
-
-#[test]
-fn a_link_that_fails_ends_alone(rt: HostRuntime) -> Result<(), Fail> {
-    let links = [
-        ending(&["abc"]),
-        ending(&["12", "34"]),
-        Link {
-            most: 1,
-            ..ending(&["xy"])
-        },
-    ];
-    // The listen, an accept, a receive, three accepts behind that turn, an accept, and the send on the first link.
-    let failing = failing_at(rt.alloc(), 8)?;
-    let mut wire = wire_of(rt.alloc(), &links, failing)?;
-    echo_to(&rt, rt.alloc(), &mut wire, 3, &["", "1234", "xy"]);
-    Ok(())
-}
-
-/// A link that ends behind its second piece, and 39 that have more to send.
-fn forty(alloc: Global) -> Result<Vec<Script>, Fail> {
-    let mut scripts = Vec::new(alloc);
-    scripts.push(script(alloc, &ending(&["a", "b"]))?)?;
-    for _ in 1..40 {
-        scripts.push(script(alloc, &staying(&["a", "b", "c", "d"]))?)?;
+impl<'a> Case<'a> {
+    /// What its service answers.
+    fn wanted(&self) -> Service {
+        match self.fault {
+            Some(fault) => Some(Err(fault)),
+            None => ended_after(self.stop_after),
+        }
     }
-    Ok(scripts)
 }
 
-/// Each of these links was sent this text.
-fn row_was_sent<R: Abort>(rt: &R, wire: &ScriptWire, from: usize, to: usize, text: &str) {
-    for i in from..to {
-        assert_eq!(rt; sent(wire, i), text.as_bytes(), "link {i}");
+/// The first of some links on which another text was sent.
+fn first_unlike(wire: &ScriptWire, wanted: &Sent) -> Option<usize> {
+    let Sent(from, to, text) = wanted;
+    for i in *from..*to {
+        if sent(wire, i) != text.as_bytes() {
+            return Some(i);
+        }
     }
+    None
 }
 
-#[test]
-fn sixteen_links_of_a_round_are_stepped_in_a_turn(rt: HostRuntime) -> Result<(), Fail> {
-    let mut wire = ScriptWire::new(rt.alloc(), forty(rt.alloc())?, Failing::Never);
-    // All are stepped in the first three turns, in which they are new, and then 32 to 39, 0 to 15, 16 to 31, 32
-    // to 39, and 0 to 15, where the first link ends.
-    assert_eq!(rt; echoed(&rt, rt.alloc(), &mut wire, 1), served(1));
-    row_was_sent(&rt, &wire, 0, 16, "ab");
-    row_was_sent(&rt, &wire, 16, 32, "a");
-    row_was_sent(&rt, &wire, 32, 40, "ab");
+/// The same of several such.
+fn unlike(wire: &ScriptWire, wanted: &[Sent]) -> Option<usize> {
+    for sent in wanted {
+        if let Some(link) = first_unlike(wire, sent) {
+            return Some(link);
+        }
+    }
+    None
+}
+
+/// Serves echoes at the wire of a case, and what comes of it is what the case says.
+fn echo_to<R: Wait + Abort>(rt: &R, alloc: Global, wire: &mut ScriptWire, case: &Case) {
+    let ended = echoed(rt, alloc, wire, case.stop_after);
+    let came = (ended, wire.links(), unlike(wire, case.sent));
+    assert_eq!(rt; came, (case.wanted(), case.given, None), "{}", case.shows);
+}
+
+fn run_case<R: Wait + Abort>(rt: &R, alloc: Global, case: &Case) -> Result<(), Fail> {
+    let failing = Failing::At(Vec::from_slice(alloc, case.failing)?);
+    let mut wire = wire_of(alloc, case.links, failing)?;
+    echo_to(rt, alloc, &mut wire, case);
     Ok(())
 }
 
-/// A link that ends behind its only piece, 255 that have more to send, and one for which there is room only
-/// then.
-fn latecomer(alloc: Global) -> Result<Vec<Script>, Fail> {
-    let mut scripts = Vec::new(alloc);
-    scripts.push(script(alloc, &ending(&["a"]))?)?;
-    for _ in 1..256 {
-        scripts.push(script(alloc, &staying(&["a", "b", "c", "d"]))?)?;
-    }
-    scripts.push(script(alloc, &ending(&["z"]))?)?;
-    Ok(scripts)
-}
-
 #[test]
-fn a_link_that_comes_late_is_answered_before_a_round_has_ended(
-    rt: HostRuntime,
-) -> Result<(), Fail> {
-    let mut wire = ScriptWire::new(rt.alloc(), latecomer(rt.alloc())?, Failing::Never);
-    assert_eq!(rt; echoed(&rt, rt.alloc(), &mut wire, 2), served(2));
-    // It was answered in the two turns behind its accept; its end was seen when its place in the round came.
-    row_was_sent(&rt, &wire, 256, 257, "z");
-    row_was_sent(&rt, &wire, 0, 256, "a");
-    Ok(())
-}
-
-/// A first link that stalls six hundred times before it ends, and 256 that are silent.
-fn crowd(alloc: Global) -> Result<Vec<Script>, Fail> {
-    let mut scripts = Vec::new(alloc);
-    scripts.push(script(alloc, &ending(&[""; 300]))?)?;
-    for _ in 0..256 {
-        scripts.push(script(alloc, &staying(&[]))?)?;
+fn echoes_come_back_on_their_links_in_turns(rt: HostRuntime) -> Result<(), Fail> {
+    for case in &CASES {
+        run_case(&rt, rt.alloc(), case)?;
     }
-    Ok(scripts)
-}
-
-#[test]
-fn a_link_waits_at_the_door_while_256_are_live(rt: HostRuntime) -> Result<(), Fail> {
-    let mut wire = ScriptWire::new(rt.alloc(), crowd(rt.alloc())?, Failing::Never);
-    assert_eq!(rt; echoed(&rt, rt.alloc(), &mut wire, 1), served(1));
-    assert_eq!(rt; wire.links(), 256);
     Ok(())
 }

@@ -1,11 +1,10 @@
 // A server of fragments at links whose heads come in pieces, a piece of each link by turns.
-use crate::fragments::triples_in;
-use crate::hostile::served;
-use crate::links::{Link, ending, sent};
+use crate::fragments::{served_seven, triples_in};
+use crate::links::{ENDING, Link, sent};
 use std::test::Fail;
 
 /// What comes on the first link, a bad request and two good ones: no head stands in one piece.
-const FIRST: [&str; 5] = [
+static FIRST: [&str; 5] = [
     "GET /data?pa",
     "ge=0 HTTP/1.1\r\nHost: localhost\r",
     "\n\r\nHEAD /data?page=3 HTTP/1.1\r\nHo",
@@ -21,7 +20,7 @@ const FIRST_END: &str =
     "<http://localhost/data#dataset> <http://www.w3.org/2002/07/owl#versionInfo> \"1\" <http://localhost/data#metadata> .\n";
 
 /// What comes on the second link: three other requests.
-const SECOND: [&str; 4] = [
+static SECOND: [&str; 4] = [
     "POST /data HTTP/1.1\r\nHost: local",
     "host\r\n\r\nGET /nothing HTTP/1.1\r\nHost: localhost\r\n",
     "\r\nGET /data?page=3 HTT",
@@ -51,13 +50,17 @@ fn shown(sent: &[u8], front: &str, end: &str) -> Option<(bool, bool, usize, usiz
 #[test]
 fn links_whose_heads_come_by_turns_get_their_own_answers(rt: HostRuntime) -> Result<(), Fail> {
     let links = [
-        ending(&FIRST),
         Link {
+            pieces: &FIRST,
+            ..ENDING
+        },
+        Link {
+            pieces: &SECOND,
             most: 100,
-            ..ending(&SECOND)
+            ..ENDING
         },
     ];
-    let wire = served(&rt, rt.alloc(), &links, 2)?;
+    let wire = served_seven(&rt, rt.alloc(), &links, 2)?;
     let first = shown(sent(&wire, 0), FIRST_SENT, FIRST_END);
     let second = shown(sent(&wire, 1), SECOND_SENT, SECOND_END);
     let wanted = [Some((true, true, 2752, 3)), Some((true, true, 2905, 1))];

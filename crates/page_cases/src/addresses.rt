@@ -1,6 +1,6 @@
 // Addresses.
 use crate::slots::rows_of;
-use case_rows::{Case, CaseFault, debug_text, truth_text, word_text};
+use case_rows::{Case, CaseFault, debug_text, number_text, truth_text, word_text};
 use case_slots::slots_of;
 use std::alloc::Global;
 use template_fill::{AddressFault, WebAddress, page_address};
@@ -28,16 +28,22 @@ pub fn given(alloc: Global, address: Result<WebAddress, OutOfMemory>) -> Result<
     }
 }
 
+/// Texts with a blank between each two.
+pub fn spaced(alloc: Global, texts: &[&str]) -> Result<String, CaseFault> {
+    Ok(texts.join(alloc, " ")?)
+}
+
 /// The normal form of an address, its authority, host, port and target.
 fn parts_text(alloc: Global, address: &WebAddress) -> Result<String, CaseFault> {
-    Ok(format!(in alloc;
-        "{} {} {} {} {}",
+    let port = number_text(alloc, address.port() as u64)?;
+    let parts = [
         address.text(),
         address.authority(),
         address.host(),
-        address.port(),
-        address.target()
-    )?)
+        port.as_str(),
+        address.target(),
+    ];
+    spaced(alloc, &parts)
 }
 
 /// The same of its copy.

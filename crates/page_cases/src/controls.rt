@@ -1,7 +1,7 @@
 // What a server says of its fragments: its configuration, and the addresses of pages.
 use crate::addresses::{address_of, given};
 use crate::slots::rows_of;
-use case_rows::{Case, CaseFault, truth_text, word_text};
+use case_rows::{Case, CaseFault, word_text};
 use case_slots::slots_of;
 use hydra_controls::{Config, address};
 use std::alloc::Global;
@@ -41,14 +41,25 @@ fn push_asked(config: &Config, path: &str, out: &mut String) -> Result<(), CaseF
     Ok(out.push_str(if is_reload { "yes " } else { "no " })?)
 }
 
+/// Appends whether each of the paths is that of a reload.
+fn push_all_asked(config: &Config, asked: &[String], out: &mut String) -> Result<(), CaseFault> {
+    for path in asked {
+        push_asked(config, path.as_str(), out)?;
+    }
+    Ok(())
+}
+
+/// Appends a configuration as text.
+fn push_config(alloc: Global, config: &Config, out: &mut String) -> Result<(), CaseFault> {
+    let text = config_text(alloc, config)?;
+    Ok(out.push_str(text.as_str())?)
+}
+
 /// Whether each of the paths is that of a reload, and a configuration as text.
 fn asked_text(alloc: Global, config: &Config, asked: &[String]) -> Result<String, CaseFault> {
     let mut out = String::new(alloc);
-    for path in asked {
-        push_asked(config, path.as_str(), &mut out)?;
-    }
-    let text = config_text(alloc, config)?;
-    out.push_str(text.as_str())?;
+    push_all_asked(config, asked, &mut out)?;
+    push_config(alloc, config, &mut out)?;
     Ok(out)
 }
 
@@ -73,15 +84,19 @@ pub fn reload(alloc: Global, case: &mut Case<'_>) -> Result<String, CaseFault> {
     }
 }
 
+/// Whether the rows of a request were read before, and are by this configuration, and the configuration.
+fn reading_text(alloc: Global, before: bool, config: &Config) -> Result<String, CaseFault> {
+    let after = config.reads_rows();
+    let text = config_text(alloc, config)?;
+    Ok(format!(in alloc; "{before} {after} {text}")?)
+}
+
 /// `base`, `page_size`: whether the rows of a request are read, first as a configuration is made and then with rows,
 /// and the configuration.
 pub fn reads_rows(alloc: Global, case: &mut Case<'_>) -> Result<String, CaseFault> {
     let made = config_of(alloc, case)?;
-    let before = truth_text(alloc, made.reads_rows())?;
-    let config = made.with_rows();
-    let after = truth_text(alloc, config.reads_rows())?;
-    let text = config_text(alloc, &config)?;
-    Ok(format!(in alloc; "{} {} {}", before.as_str(), after.as_str(), text.as_str())?)
+    let before = made.reads_rows();
+    reading_text(alloc, before, &made.with_rows())
 }
 
 /// `subject`, `predicate`, `object`, `rows`: the address of the page with this number.

@@ -6,7 +6,7 @@ ghost use Rattle.template_fill.specs.Forms.{HasNoBlank};
 
 use crate::controls::config_of;
 use crate::slots::rows_of;
-use case_rows::{Case, CaseFault, number_text, push_number};
+use case_rows::{Case, CaseFault, number_text, numbers_text};
 use case_slots::slots_of;
 use hydra_controls::{Config, MetadataLines, metadata};
 use nquads_text::write_quad;
@@ -18,7 +18,7 @@ use std::str;
 #[derive(Drop)]
 pub struct Lines {
     pub text: Vec<u8>,
-    lengths: Vec<usize>,
+    lengths: Vec<u64>,
 }
 
 /// Appends the line of a quad.
@@ -28,7 +28,7 @@ fn push_quad(quad: &Quad, lines: &mut Lines) -> Result<(), CaseFault> {
         return Err(CaseFault::OutOfMemory);
     }
     let length = lines.text.len().saturating_sub(before);
-    Ok(lines.lengths.push(length)?)
+    Ok(lines.lengths.push(length as u64)?)
 }
 
 /// The lines of quads.
@@ -55,14 +55,21 @@ fn make_line(lines: &MetadataLines, i: usize, text: &mut Vec<u8>) -> Result<bool
     Ok(lines.length(i) == text.len().saturating_sub(before) as u128)
 }
 
+/// Appends the lines before this place, and says whether each is as long as is said of it.
+fn make_lines(lines: &MetadataLines, count: usize, text: &mut Vec<u8>) -> Result<bool, CaseFault> {
+    let mut is_said = true;
+    for i in 0..count {
+        is_said = make_line(lines, i, text)? && is_said;
+    }
+    Ok(is_said)
+}
+
 /// Whether lines that are made one by one are these, and each is as long as is said of it.
 fn are_made(alloc: Global, lines: &MetadataLines, wanted: &Lines) -> Result<bool, CaseFault> {
+    let count = wanted.lengths.len();
     let mut text = Vec::new(alloc);
-    let mut is_said = lines.count() == wanted.lengths.len();
-    for i in 0..wanted.lengths.len() {
-        is_said = make_line(lines, i, &mut text)? && is_said;
-    }
-    Ok(is_said && text.as_slice() == wanted.text.as_slice())
+    let is_said = make_lines(lines, count, &mut text)?;
+    Ok(is_said && lines.count() == count && text.as_slice() == wanted.text.as_slice())
 }
 
 /// The number of a page, how many triples its fragment has, and the version of the data.
@@ -90,14 +97,14 @@ fn last_page(count: u64, size: u64) -> u64
     count.div_ceil(size).max(1)
 }
 
-/// The quads of the metadata of a page, where there is such a page.
-fn quads_of(
+/// The lines of the metadata of a page, where there is such a page.
+fn wanted_of(
     alloc: Global,
     config: &Config,
     slots: &Slots,
     rows: &[Slots],
     numbers: Numbers,
-) -> Result<Vec<Quad>, CaseFault>
+) -> Result<Lines, CaseFault>
     requires slots { HasNoBlank slots.now }
     requires rows { AllByRecursion HasNoBlank rows.now }
 {
@@ -110,47 +117,7 @@ fn quads_of(
         return Err(CaseFault::Row);
     }
     match metadata(alloc, config, slots, rows, page, count, version) {
-        Ok(quads) => Ok(quads),
-        Err(_) => Err(CaseFault::OutOfMemory),
-    }
-}
-
-/// The lines of the metadata of a page.
-fn wanted_of(
-    alloc: Global,
-    config: &Config,
-    slots: &Slots,
-    rows: &[Slots],
-    numbers: Numbers,
-) -> Result<Lines, CaseFault>
-    requires slots { HasNoBlank slots.now }
-    requires rows { AllByRecursion HasNoBlank rows.now }
-{
-    let quads = quads_of(alloc, config, slots, rows, numbers)?;
-    written(alloc, quads.as_slice())
-}
-
-/// The same as lines that are made one by one.
-fn made_of(
-    alloc: Global,
-    config: &Config,
-    slots: &Slots,
-    rows: &[Slots],
-    numbers: Numbers,
-) -> Result<MetadataLines, CaseFault>
-    requires slots { HasNoBlank slots.now }
-    requires rows { AllByRecursion HasNoBlank rows.now }
-{
-    let Numbers {
-        page,
-        count,
-        version,
-    } = numbers;
-    if page == 0 {
-        return Err(CaseFault::Row);
-    }
-    match MetadataLines::new(alloc, config, slots, rows, page, count, version) {
-        Ok(lines) => Ok(lines),
+        Ok(quads) => written(alloc, quads.as_slice()),
         Err(_) => Err(CaseFault::OutOfMemory),
     }
 }
@@ -167,8 +134,18 @@ fn is_made(
     requires slots { HasNoBlank slots.now }
     requires rows { AllByRecursion HasNoBlank rows.now }
 {
-    let lines = made_of(alloc, config, slots, rows, numbers)?;
-    are_made(alloc, &lines, wanted)
+    let Numbers {
+        page,
+        count,
+        version,
+    } = numbers;
+    if page == 0 {
+        return Err(CaseFault::Row);
+    }
+    match MetadataLines::new(alloc, config, slots, rows, page, count, version) {
+        Ok(lines) => are_made(alloc, &lines, wanted),
+        Err(_) => Err(CaseFault::OutOfMemory),
+    }
 }
 
 /// The lines of the metadata of a page, where those that are made one by one are the same.
@@ -209,13 +186,10 @@ pub fn lines_of(alloc: Global, case: &mut Case<'_>) -> Result<Lines, CaseFault> 
     lines_in(alloc, case, &config, numbers)
 }
 
-/// The lengths of lines, one behind the other.
-fn lengths_text(alloc: Global, lengths: &[usize]) -> Result<String, CaseFault> {
-    let mut out = String::new(alloc);
-    for length in lengths {
-        push_number(alloc, *length as u64, &mut out)?;
-        out.push(' ')?;
-    }
+/// The lengths of lines, with a blank behind each.
+fn lengths_text(alloc: Global, lengths: &[u64]) -> Result<String, CaseFault> {
+    let mut out = numbers_text(alloc, lengths)?;
+    out.push(' ')?;
     Ok(out)
 }
 
@@ -225,16 +199,26 @@ fn push_line(line: &str, out: &mut String) -> Result<(), CaseFault> {
     Ok(out.push('\n')?)
 }
 
+/// Whether a place is this one or behind it, and one of at most so many.
+fn is_asked(place: u64, from: u64, most: u64) -> bool {
+    place >= from && place - from < most
+}
+
+/// Appends the lines from this one on, at most so many.
+fn push_lines(text: &str, from: u64, most: u64, out: &mut String) -> Result<(), CaseFault> {
+    for (i, line) in text.lines().enumerate() {
+        if is_asked(i as u64, from, most) {
+            push_line(line, out)?;
+        }
+    }
+    Ok(())
+}
+
 /// The lines from this one on, at most so many, as text.
 fn lines_text(alloc: Global, lines: &[u8], from: u64, most: u64) -> Result<String, CaseFault> {
     let text = str::from_utf8(lines).unwrap_or("no text");
     let mut out = String::new(alloc);
-    for (i, line) in text.lines().enumerate() {
-        let place = i as u64;
-        if place >= from && place - from < most {
-            push_line(line, &mut out)?;
-        }
-    }
+    push_lines(text, from, most, &mut out)?;
     Ok(out)
 }
 
@@ -245,10 +229,20 @@ fn some_lines(alloc: Global, case: &mut Case<'_>, lines: &Lines) -> Result<Strin
     lines_text(alloc, lines.text.as_slice(), from, most)
 }
 
-/// The length of the first line.
-fn first_length(alloc: Global, lengths: &[usize]) -> Result<String, CaseFault> {
-    match lengths.first() {
-        Some(length) => number_text(alloc, *length as u64),
+/// What is to be shown of lines that is a number: how many bytes or lines they are, or the length of the first.
+fn number_of(lines: &Lines, show: &str) -> Option<u64> {
+    match show {
+        "bytes" => Some(lines.text.len() as u64),
+        "count" => Some(lines.lengths.len() as u64),
+        "line_length" => lines.lengths.first().copied(),
+        _ => None,
+    }
+}
+
+/// The number that is to be shown of lines.
+fn shown_number(alloc: Global, lines: &Lines, show: &str) -> Result<String, CaseFault> {
+    match number_of(lines, show) {
+        Some(number) => number_text(alloc, number),
         None => Err(CaseFault::Row),
     }
 }
@@ -262,11 +256,8 @@ fn shown(
 ) -> Result<String, CaseFault> {
     match show {
         "lengths" => lengths_text(alloc, lines.lengths.as_slice()),
-        "bytes" => number_text(alloc, lines.text.len() as u64),
-        "count" => number_text(alloc, lines.lengths.len() as u64),
-        "line_length" => first_length(alloc, lines.lengths.as_slice()),
         "lines" => some_lines(alloc, case, lines),
-        _ => Err(CaseFault::Row),
+        _ => shown_number(alloc, lines, show),
     }
 }
 

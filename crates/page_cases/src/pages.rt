@@ -1,5 +1,7 @@
 // Pages that are read.
-use crate::addresses::address_of;
+ghost use Rattle.template_fill.specs.Forms.{HasNoBlank};
+
+use crate::addresses::{address_of, spaced};
 use crate::metadata::lines_of;
 use case_rows::{Case, CaseFault, bytes_text, debug_text, number_or_none, word_text};
 use control_reader::{Page, PageFault, read_page};
@@ -17,14 +19,14 @@ fn next_text(page: &Page) -> &str {
     }
 }
 
-/// A number of triples, a count and a next page.
+/// A length, a count, and the text behind them.
 fn told_numbers(
     alloc: Global,
-    triples: usize,
+    length: usize,
     count: u64,
-    next: &str,
+    behind: &str,
 ) -> Result<String, CaseFault> {
-    Ok(format!(in alloc; "{triples} {count} {next}")?)
+    Ok(format!(in alloc; "{length} {count} {behind}")?)
 }
 
 /// The number of triples, the count and the next page.
@@ -33,16 +35,14 @@ fn numbers(alloc: Global, page: &Page) -> Result<String, CaseFault> {
     told_numbers(alloc, triples, page.count, next_text(page))
 }
 
-/// The address that a form gives where nothing is fixed.
-fn free_address(alloc: Global, form: &Form) -> Result<WebAddress, CaseFault> {
-    let free = Slots {
+/// Slots of which none is fixed.
+fn free() -> Slots
+    ensures { HasNoBlank result }
+{
+    Slots {
         subject: Slot::Any,
         predicate: Slot::Any,
         object: Slot::Any,
-    };
-    match form.address(alloc, &free) {
-        Ok(address) => Ok(address),
-        Err(_) => Err(CaseFault::OutOfMemory),
     }
 }
 
@@ -51,13 +51,22 @@ fn form_text(alloc: Global, form: &Form, address: &str) -> Result<String, CaseFa
     let subject = form.subject.as_str();
     let predicate = form.predicate.as_str();
     let object = form.object.as_str();
-    Ok(format!(in alloc; "{subject} {predicate} {object} {address}")?)
+    spaced(alloc, &[subject, predicate, object, address])
+}
+
+/// The names of a form, and the address that it gives for these slots.
+fn filled(alloc: Global, form: &Form, slots: &Slots) -> Result<String, CaseFault>
+    requires { HasNoBlank slots.now }
+{
+    match form.address(alloc, slots) {
+        Ok(address) => form_text(alloc, form, address.text()),
+        Err(_) => Err(CaseFault::OutOfMemory),
+    }
 }
 
 /// The names of the form, and the address that it gives where nothing is fixed.
 fn form(alloc: Global, page: &Page) -> Result<String, CaseFault> {
-    let address = free_address(alloc, &page.form)?;
-    form_text(alloc, &page.form, address.text())
+    filled(alloc, &page.form, &free())
 }
 
 /// Appends a term in canonical text, with a blank behind it.
@@ -151,24 +160,36 @@ pub fn read_back(alloc: Global, case: &mut Case<'_>) -> Result<String, CaseFault
     shown_of(alloc, case, body.as_slice())
 }
 
+/// A template, a next page and a version.
+fn told_addresses(
+    alloc: Global,
+    template: &str,
+    next: &str,
+    version: u64,
+) -> Result<String, CaseFault> {
+    Ok(format!(in alloc; "{template} {next} {version}")?)
+}
+
 /// What is told of a page of our own: the length of the lines before its controls, the count, the template, the next page
 /// and the version.
 fn own_text(alloc: Global, own: &OwnControls) -> Result<String, CaseFault> {
-    let front = own.front.len();
-    let count = own.count;
-    let template = own.template;
     let next = own.next.unwrap_or("none");
-    let version = own.version;
-    Ok(format!(in alloc; "{front} {count} {template} {next} {version}")?)
+    let addresses = told_addresses(alloc, own.template, next, own.version)?;
+    told_numbers(alloc, own.front.len(), own.count, addresses.as_str())
+}
+
+/// `address`: what is told by a body, where it has the controls of a page of our own; else `other`.
+fn own_of(alloc: Global, case: &mut Case<'_>, body: &[u8]) -> Result<String, CaseFault> {
+    let address = address_of(alloc, case, "address")?;
+    match own_controls(body, &address) {
+        Some(own) => own_text(alloc, &own),
+        None => word_text(alloc, "other"),
+    }
 }
 
 /// `address`, `before`, `behind`, and the page of the row: what is told by its metadata, between these texts, where they
 /// are the controls of a page of our own; else `other`.
 pub fn own(alloc: Global, case: &mut Case<'_>) -> Result<String, CaseFault> {
     let body = body_of(alloc, case)?;
-    let address = address_of(alloc, case, "address")?;
-    match own_controls(body.as_slice(), &address) {
-        Some(own) => own_text(alloc, &own),
-        None => word_text(alloc, "other"),
-    }
+    own_of(alloc, case, body.as_slice())
 }

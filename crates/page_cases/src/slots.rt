@@ -1,5 +1,5 @@
 // The slots of a fragment, by the explicit forms of their terms.
-ghost use Rattle.std.specs.Prelude.{IfOk};
+ghost use Rattle.std.specs.Prelude.{IfOk, OnOk};
 ghost use Rattle.std.specs.List.{AllByRecursion};
 ghost use Rattle.rdf_terms.specs.Valid.{IsNotBlank};
 ghost use Rattle.template_fill.specs.Forms.{HasNoBlank};
@@ -10,6 +10,7 @@ use nquads_text::canonical;
 use rdf_terms::{Slot, Slots, Term};
 use std::alloc::Global;
 use template_fill::{ValueFault, explicit, read_explicit, read_row, row_length};
+use text_base::OutOfMemory;
 
 /// A term in canonical text.
 fn canonical_text(alloc: Global, term: &Term) -> Result<String, CaseFault> {
@@ -38,29 +39,35 @@ fn term_text(alloc: Global, term: &Term) -> Result<String, CaseFault>
 
 /// The term of a slot in canonical text, and its explicit form.
 fn slot_text(alloc: Global, slot: Slot) -> Result<String, CaseFault> {
-    match no_blank(slot)? {
+    let slot = no_blank(slot)?;
+    match &slot {
         Slot::Any => word_text(alloc, "any"),
-        Slot::Fixed(term) => term_text(alloc, &term),
+        Slot::Fixed(term) => term_text(alloc, term),
     }
 }
 
-/// `text`: the slot that is read of it: its term's canonical text and its explicit form, or the fault.
-pub fn explicit_form(alloc: Global, case: &mut Case<'_>) -> Result<String, CaseFault> {
-    let text = case.text(alloc, "text")?;
-    match read_explicit(alloc, text.as_str()) {
+/// The slot that is read of a text, or the fault.
+fn explicit_text(alloc: Global, text: &str) -> Result<String, CaseFault> {
+    match read_explicit(alloc, text) {
         Ok(slot) => slot_text(alloc, slot),
         Err(ValueFault::OutOfMemory) => Err(CaseFault::OutOfMemory),
         Err(fault) => debug_text(alloc, &fault),
     }
 }
 
-/// `subject`, `predicate`, `object`: a row without a blank node.
-fn row_of(alloc: Global, case: &mut Case<'_>) -> Result<Slots, CaseFault>
-    ensures { IfOk result HasNoBlank }
+/// `text`: the slot that is read of it: its term's canonical text and its explicit form, or the fault.
+pub fn explicit_form(alloc: Global, case: &mut Case<'_>) -> Result<String, CaseFault> {
+    let text = case.text(alloc, "text")?;
+    explicit_text(alloc, text.as_str())
+}
+
+/// `subject`, `predicate`, `object`: appends a row without a blank node.
+fn push_row(alloc: Global, case: &mut Case<'_>, rows: &mut Vec<Slots>) -> Result<(), CaseFault>
+    requires { AllByRecursion HasNoBlank rows.old.items }
+    ensures { OnOk result (AllByRecursion HasNoBlank rows.new.items) }
 {
-    let slots = slots_of(alloc, case)?;
-    case.end()?;
-    Ok(Box::into_inner(slots))
+    let row = slots_of(alloc, case)?;
+    Ok(rows.push(Box::into_inner(row))?)
 }
 
 /// The rows of a list, each with `subject`, `predicate` and `object`.
@@ -69,7 +76,8 @@ fn rows_in(alloc: Global, list: &mut [Case<'_>]) -> Result<Vec<Slots>, CaseFault
 {
     let mut rows = Vec::new(alloc);
     for row in list.iter_mut() {
-        rows.push(row_of(alloc, row)?)?;
+        push_row(alloc, row, &mut rows)?;
+        row.end()?;
     }
     Ok(rows)
 }
@@ -95,24 +103,39 @@ fn push_place(place: &Slot, out: &mut Vec<u8>) -> Result<(), CaseFault> {
     Ok(out.push(b' ')?)
 }
 
+/// Appends the places of a row.
+fn push_places(row: &Slots, out: &mut Vec<u8>) -> Result<(), CaseFault> {
+    push_place(&row.subject, out)?;
+    push_place(&row.predicate, out)?;
+    push_place(&row.object, out)
+}
+
 /// The places of a row.
 fn row_text(alloc: Global, row: &Slots) -> Result<String, CaseFault> {
     let mut out = Vec::new(alloc);
-    push_place(&row.subject, &mut out)?;
-    push_place(&row.predicate, &mut out)?;
-    push_place(&row.object, &mut out)?;
+    push_places(row, &mut out)?;
     text_of_bytes(out)
+}
+
+/// The places of a row that was read, or `none` for a text that is no row.
+fn told_row(alloc: Global, read: &Result<Option<Slots>, OutOfMemory>) -> Result<String, CaseFault> {
+    match read {
+        Ok(Some(row)) => row_text(alloc, row),
+        Ok(None) => word_text(alloc, "none"),
+        Err(_) => Err(CaseFault::OutOfMemory),
+    }
+}
+
+/// The row that is read of a text, if it is one.
+fn read_text(alloc: Global, text: &str) -> Result<String, CaseFault> {
+    told_row(alloc, &read_row(alloc, text))
 }
 
 /// `text`: the places of the row that is read of it: the canonical text of each term, or `any`, with a blank behind it;
 /// `none`, where it is no row.
 pub fn row(alloc: Global, case: &mut Case<'_>) -> Result<String, CaseFault> {
     let text = case.text(alloc, "text")?;
-    match read_row(alloc, text.as_str()) {
-        Ok(Some(row)) => row_text(alloc, &row),
-        Ok(None) => word_text(alloc, "none"),
-        Err(_) => Err(CaseFault::OutOfMemory),
-    }
+    read_text(alloc, text.as_str())
 }
 
 /// `subject`, `predicate`, `object`: how many bytes the row takes in an address.

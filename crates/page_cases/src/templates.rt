@@ -12,14 +12,20 @@ fn copied(alloc: Global, text: &str) -> Result<Text, CaseFault> {
     Ok(Text::from_string(String::from_str(alloc, text)?))
 }
 
+/// A value: a name, and its text.
+fn value_of(alloc: Global, name: &str, text: &str) -> Result<Value, CaseFault> {
+    let name = copied(alloc, name)?;
+    let text = copied(alloc, text)?;
+    Ok(Value { name, text })
+}
+
 /// Appends a value: a name, and its text.
 fn push_value(alloc: Global, pair: &[String], values: &mut Vec<Value>) -> Result<(), CaseFault> {
     let [name, text] = pair else {
         return Err(CaseFault::Row);
     };
-    let name = copied(alloc, name.as_str())?;
-    let text = copied(alloc, text.as_str())?;
-    Ok(values.push(Value { name, text })?)
+    let value = value_of(alloc, name.as_str(), text.as_str())?;
+    Ok(values.push(value)?)
 }
 
 /// `values`: names, each followed by its text.
@@ -66,18 +72,35 @@ pub fn names(alloc: Global, case: &mut Case<'_>) -> Result<String, CaseFault> {
     truth_text(alloc, template.names(name.as_str()))
 }
 
+/// A form over a template, in which no place has a name.
+fn nameless(alloc: Global, template: Template) -> Form {
+    Form {
+        template,
+        subject: Text::from_string(String::new(alloc)),
+        predicate: Text::from_string(String::new(alloc)),
+        object: Text::from_string(String::new(alloc)),
+    }
+}
+
+/// Names a place.
+fn set_name(alloc: Global, place: &mut Text, name: &str) -> Result<(), CaseFault> {
+    *place = copied(alloc, name)?;
+    Ok(())
+}
+
+/// Names the places `subject`, `predicate` and `object`.
+fn set_names(alloc: Global, form: &mut Form) -> Result<(), CaseFault> {
+    set_name(alloc, &mut form.subject, "subject")?;
+    set_name(alloc, &mut form.predicate, "predicate")?;
+    set_name(alloc, &mut form.object, "object")
+}
+
 /// `template`: a form with the names `subject`, `predicate` and `object`.
 fn form_of(alloc: Global, case: &mut Case<'_>) -> Result<Form, CaseFault> {
-    let subject = copied(alloc, "subject")?;
-    let predicate = copied(alloc, "predicate")?;
-    let object = copied(alloc, "object")?;
     let template = template_of(alloc, case)?;
-    Ok(Form {
-        template,
-        subject,
-        predicate,
-        object,
-    })
+    let mut form = nameless(alloc, template);
+    set_names(alloc, &mut form)?;
+    Ok(form)
 }
 
 /// `subject`, `predicate`, `object`: the address that a form gives.

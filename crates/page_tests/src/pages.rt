@@ -1,11 +1,12 @@
 // `template_fill`, `hydra_controls`, `page_controls`, `fragment_page` and `control_reader`.
+ghost use Rattle.rdf_terms.specs.Valid.{IsNotBlank};
 ghost use Rattle.template_fill.specs.Forms.{HasNoBlank};
 
 use control_reader::read_page;
-use fragment_page::Page;
+use fragment_page::{Page, PageFault};
 use hydra_controls::{Config, MetadataLines};
 use nquads_text::{canonical, read_all};
-use page_controls::read_controls;
+use page_controls::{PageControls, Told, read_controls};
 use rdf_terms::{LONGEST_READ, Quad, Slot, Slots, Term, Triple};
 use std::alloc::Global;
 use std::process::Abort;
@@ -24,14 +25,20 @@ fn is_third<R: Abort + AllocGlobal>(rt: &R, base: &WebAddress, slots: &Slots) ->
     Ok(())
 }
 
-fn fix_predicate<R: Abort + AllocGlobal>(rt: &R, base: &WebAddress) -> Result<(), Fail> {
-    let key = Term::iri(rt.alloc(), "http://e/k")?;
+fn fix_to<R: Abort + AllocGlobal>(rt: &R, base: &WebAddress, key: Term) -> Result<(), Fail>
+    requires { IsNotBlank key }
+{
     let slots = Slots {
         subject: Slot::Any,
         predicate: Slot::Fixed(key),
         object: Slot::Any,
     };
     is_third(rt, base, &slots)
+}
+
+fn fix_predicate<R: Abort + AllocGlobal>(rt: &R, base: &WebAddress) -> Result<(), Fail> {
+    let key = Term::iri(rt.alloc(), "http://e/k")?;
+    fix_to(rt, base, key)
 }
 
 #[test]
@@ -75,9 +82,13 @@ fn write_all<R: Abort + AllocGlobal>(rt: &R, lines: &MetadataLines) -> Result<()
     Ok(())
 }
 
+fn write_made<R: Abort + AllocGlobal>(rt: &R, lines: MetadataLines) -> Result<(), Fail> {
+    write_all(rt, &lines)
+}
+
 fn write_first<R: Abort + AllocGlobal>(rt: &R, config: &Config) -> Result<(), Fail> {
     let lines = MetadataLines::new(rt.alloc(), config, &free(), &[], 1, 0, 1)?;
-    write_all(rt, &lines)
+    write_made(rt, lines)
 }
 
 #[test]
@@ -106,11 +117,15 @@ _:o <http://www.w3.org/ns/hydra/core#property> <http://www.w3.org/1999/02/22-rdf
 _:o <http://www.w3.org/ns/hydra/core#variable> \"o\" <g:1> .\n\
 _:f <http://www.w3.org/ns/hydra/core#template> \"http://h/d{?s,p,o}\" <g:1> .\n";
 
-fn tells_count_and_next<R: Abort + AllocGlobal>(rt: &R, page: &Page) -> Result<(), Fail> {
-    assert_eq!(rt; (page.count, page.triples.as_slice().len()), (1, 3));
+fn tells_next<R: Abort + AllocGlobal>(rt: &R, page: &Page) -> Result<(), Fail> {
     let next = page.next.as_ref().ok_or("a next page")?;
     assert_eq!(rt; next.text(), "http://h/d?page=2");
     Ok(())
+}
+
+fn tells_count_and_next<R: Abort + AllocGlobal>(rt: &R, page: &Page) -> Result<(), Fail> {
+    assert!(rt; page.count == 1 && page.triples.as_slice().len() == 3);
+    tells_next(rt, page)
 }
 
 /// A triple in canonical text, with a blank behind each term.
@@ -129,7 +144,23 @@ fn write_triples(page: &Page, out: &mut Vec<u8>) -> Result<(), Fail> {
     Ok(())
 }
 
-/// Reads the page at its address, and writes its triples.
+/// Looks at what a page tells, and writes its triples.
+fn show_page<R: Abort + AllocGlobal>(rt: &R, page: &Page, out: &mut Vec<u8>) -> Result<(), Fail> {
+    tells_count_and_next(rt, page)?;
+    write_triples(page, out)
+}
+
+/// The same of a page that was read.
+fn show_read<R: Abort + AllocGlobal>(
+    rt: &R,
+    read: Result<Page, PageFault>,
+    out: &mut Vec<u8>,
+) -> Result<(), Fail> {
+    let page = read.ok().ok_or("a page")?;
+    show_page(rt, &page, out)
+}
+
+/// The same of the page that a body is at its address.
 fn show<R: Abort + AllocGlobal>(
     rt: &R,
     body: &str,
@@ -137,9 +168,7 @@ fn show<R: Abort + AllocGlobal>(
     out: &mut Vec<u8>,
 ) -> Result<(), Fail> {
     let read = read_page(rt.alloc(), body.as_bytes(), address);
-    let page = read.ok().ok_or("a page")?;
-    tells_count_and_next(rt, &page)?;
-    write_triples(&page, out)
+    show_read(rt, read, out)
 }
 
 /// Reads a page, and writes its triples.
@@ -158,15 +187,26 @@ fn a_page_has_its_count_next_and_triples_in_order(rt: HostRuntime) -> Result<(),
     Ok(())
 }
 
+fn tells_one<R: Abort + AllocGlobal>(rt: &R, told: &Told) {
+    assert_eq!(rt; told.count, 1);
+}
+
+fn tell_read<R: Abort + AllocGlobal>(
+    rt: &R,
+    read: Result<PageControls, PageFault>,
+) -> Result<(), Fail> {
+    let told = read.ok().ok_or("controls")?.told;
+    tells_one(rt, &told);
+    Ok(())
+}
+
 fn tell_count<R: Abort + AllocGlobal>(
     rt: &R,
     address: &WebAddress,
     quads: &[Quad],
 ) -> Result<(), Fail> {
     let read = read_controls(rt.alloc(), quads, address);
-    let told = read.ok().ok_or("controls")?.told;
-    assert_eq!(rt; told.count, 1);
-    Ok(())
+    tell_read(rt, read)
 }
 
 fn tell_of<R: Abort + AllocGlobal>(rt: &R, body: &str, address: &WebAddress) -> Result<(), Fail> {

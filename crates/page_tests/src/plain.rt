@@ -5,12 +5,13 @@ ghost use Rattle.triple_table.specs.Stored.{IsRange};
 
 use fragment_pages::page;
 use plain_fragments::plain_fragment;
-use rdf_terms::{Quad, Slot, Slots, Term, Triple};
+use rdf_terms::{Quad, Slots, Triple};
 use std::alloc::Global;
 use std::marker::Brand;
+use std::process::Abort;
 use std::sync::ledger::{Blank, Ledger};
 use std::test::Fail;
-use template_fill::LARGEST_PAGE;
+use template_fill::{LARGEST_PAGE, read_row};
 use test_servers::{host, quads_of};
 use tpf_base::Steps;
 use triple_table::{Choice, Range, Table, served};
@@ -24,39 +25,12 @@ const DATA: &str = "<http://e/c> <http://e/n> \"C\" .
 _:x <http://e/k> <http://e/a1> .
 ";
 
-/// An open slot for a dash, a literal for a text that begins with a quote, else an IRI.
-fn slot(alloc: Global, text: &str) -> Result<Slot, Fail> {
-    match text.as_bytes() {
-        [b'-'] => Ok(Slot::Any),
-        [b'"', ..] => Ok(Slot::Fixed(Term::plain(alloc, "C")?)),
-        _ => match Term::iri(alloc, text) {
-            Ok(term) => Ok(Slot::Fixed(term)),
-            Err(_) => Err(Fail::new("no IRI")),
-        },
+/// The slots of texts with two commas between: open where nothing stands, else fixed to what is an IRI or a literal.
+pub(crate) fn slots(alloc: Global, texts: &str) -> Result<Slots, Fail> {
+    match read_row(alloc, texts) {
+        Ok(Some(slots)) => Ok(slots),
+        _ => Err(Fail::new("no slots")),
     }
-}
-
-/// Sets slots to those of texts.
-fn set_slots(alloc: Global, texts: (&str, &str, &str), slots: &mut Slots) -> Result<(), Fail> {
-    slots.subject = slot(alloc, texts.0)?;
-    slots.predicate = slot(alloc, texts.1)?;
-    slots.object = slot(alloc, texts.2)?;
-    Ok(())
-}
-
-/// Slots of which none is fixed.
-pub(crate) fn free() -> Slots {
-    Slots {
-        subject: Slot::Any,
-        predicate: Slot::Any,
-        object: Slot::Any,
-    }
-}
-
-fn slots(alloc: Global, texts: (&str, &str, &str)) -> Result<Box<Slots>, Fail> {
-    let mut slots = Box::new(alloc, free())?;
-    set_slots(alloc, texts, &mut slots)?;
-    Ok(slots)
 }
 
 /// Whether this triple stands at a place of a range.
@@ -70,6 +44,22 @@ fn is_at(table: &Table, range: &Range, i: usize, triple: &Triple) -> bool
         && table.term(ids.object).same(&triple.object)
 }
 
+/// Whether exactly these triples stand in a range.
+fn are_at(table: &Table, range: &Range, triples: &[Triple]) -> bool
+    requires { IsRange table.now range.now }
+{
+    let count = table.count(range);
+    if count != triples.len() {
+        return false;
+    }
+    for i in 0..count {
+        if !is_at(table, range, i, &triples[i]) {
+            return false;
+        }
+    }
+    true
+}
+
 /// Whether the first page, which may have `LARGEST_PAGE` triples, shows exactly these.
 fn shows<L: Ledger>(table: &Table, slots: &Slots, triples: &[Triple], blank: Blank) -> bool
     requires name { blank.name ≡ L.name }
@@ -80,16 +70,7 @@ fn shows<L: Ledger>(table: &Table, slots: &Slots, triples: &[Triple], blank: Bla
     let Some(view) = page(table, slots, 1, LARGEST_PAGE, &mut steps) else {
         return false;
     };
-    let count = table.count(&view.range);
-    if count != triples.len() || view.from != 0 || view.to != count {
-        return false;
-    }
-    for i in 0..count {
-        if !is_at(table, &view.range, i, &triples[i]) {
-            return false;
-        }
-    }
-    true
+    view.from == 0 && view.to == triples.len() && are_at(table, &view.range, triples)
 }
 
 fn shows_all(table: &Table, slots: &Slots, triples: &[Triple]) -> bool {
@@ -99,34 +80,40 @@ fn shows_all(table: &Table, slots: &Slots, triples: &[Triple]) -> bool {
 /// Whether a pattern's first page is the fragment found the plain way, and how many triples it has.
 fn compare_slots(
     alloc: Global,
-    texts: (&str, &str, &str),
+    slots: &Slots,
+    triples: &[Triple],
+    table: &Table,
+) -> Result<(bool, usize), Fail> {
+    let plain = plain_fragment(alloc, triples, slots)?;
+    Ok((shows_all(table, slots, &plain), plain.len()))
+}
+
+/// The same of the pattern of these texts.
+fn compare_texts(
+    alloc: Global,
+    texts: &str,
     triples: &[Triple],
     table: &Table,
 ) -> Result<(bool, usize), Fail> {
     let slots = slots(alloc, texts)?;
-    let plain = plain_fragment(alloc, triples, &slots)?;
-    Ok((shows_all(table, &slots, &plain), plain.len()))
+    compare_slots(alloc, &slots, triples, table)
 }
 
 /// The same of the table of these statements.
 fn compare_table(
     alloc: Global,
-    texts: (&str, &str, &str),
+    texts: &str,
     quads: &[Quad],
     triples: &[Triple],
 ) -> Result<(bool, usize), Fail>
     requires { All IsRdfQuad quads.now }
 {
     let table = Table::build(alloc, quads, &Choice::Union, host(), 100)?;
-    compare_slots(alloc, texts, triples, &table)
+    compare_texts(alloc, texts, triples, &table)
 }
 
 /// The same of the triples of these statements.
-fn compare_served(
-    alloc: Global,
-    texts: (&str, &str, &str),
-    quads: &[Quad],
-) -> Result<(bool, usize), Fail>
+fn compare_served(alloc: Global, texts: &str, quads: &[Quad]) -> Result<(bool, usize), Fail>
     requires { All IsRdfQuad quads.now }
 {
     let triples = served(alloc, quads, &Choice::Union, host())?;
@@ -134,29 +121,35 @@ fn compare_served(
 }
 
 /// The same of the data.
-fn compared(alloc: Global, texts: (&str, &str, &str)) -> Result<(bool, usize), Fail> {
+fn compared(alloc: Global, texts: &str) -> Result<(bool, usize), Fail> {
     let quads = quads_of(alloc, DATA)?;
     compare_served(alloc, texts, &quads)
 }
 
 /// The texts of a pattern, and how many triples its fragment has.
-const FRAGMENTS: [((&str, &str, &str), usize); 10] = [
-    (("-", "-", "-"), 6),
-    (("http://e/a", "-", "-"), 3),
-    (("-", "http://e/k", "-"), 4),
-    (("-", "-", "http://e/c"), 2),
-    (("http://e/a", "http://e/k", "-"), 2),
-    (("-", "http://e/n", "\""), 1),
-    (("http://e/a", "-", "http://e/b"), 1),
-    (("http://e/b", "http://e/k", "http://e/c"), 1),
-    (("http://localhost/.well-known/genid/x", "-", "-"), 1),
-    (("http://e/zz", "-", "-"), 0),
+const FRAGMENTS: [(&str, usize); 10] = [
+    (",,", 6),
+    ("http://e/a,,", 3),
+    (",http://e/k,", 4),
+    (",,http://e/c", 2),
+    ("http://e/a,http://e/k,", 2),
+    (",http://e/n,\"C\"", 1),
+    ("http://e/a,,http://e/b", 1),
+    ("http://e/b,http://e/k,http://e/c", 1),
+    ("http://localhost/.well-known/genid/x,,", 1),
+    ("http://e/zz,,", 0),
 ];
+
+fn is_found<R: Abort + AllocGlobal>(rt: &R, texts: &str, count: usize) -> Result<(), Fail> {
+    let (same, found) = compared(rt.alloc(), texts)?;
+    assert!(rt; same && found == count);
+    Ok(())
+}
 
 #[test]
 fn pages_of_every_kind_are_fragments_found_the_plain_way(rt: HostRuntime) -> Result<(), Fail> {
     for (texts, count) in FRAGMENTS {
-        assert_eq!(rt; compared(rt.alloc(), texts)?, (true, count));
+        is_found(&rt, texts, count)?;
     }
     Ok(())
 }

@@ -1,14 +1,15 @@
 // Pages of what rows leave of a fragment, compared with the whole fragment filtered by the rows.
-ghost use Rattle.std.specs.Prelude.{◌≡◌, ◌-◌, ◌<◌, ◌≤◌, length};
+ghost use Rattle.std.specs.Prelude.{◌≡◌, ◌<◌, ◌≤◌, length};
 ghost use Rattle.rdf_terms.specs.declared.limits.TheConstants.{MOST_ROWS};
-ghost use Rattle.triple_table.specs.Stored.{IsRange};
+ghost use Rattle.triple_table.specs.Stored.{IsIdTriple, IsRange, held_terms};
 
-use crate::plain::free;
+use crate::plain::slots;
 use fragment_pages::page;
-use rdf_terms::{MOST_ROWS, Slot, Slots, Term};
+use rdf_terms::{MOST_ROWS, Slots};
 use restricted_pages::restricted_page;
 use std::alloc::Global;
 use std::marker::Brand;
+use std::ops;
 use std::sync::ledger::{Blank, Ledger};
 use std::test::Fail;
 use template_fill::LARGEST_PAGE;
@@ -19,14 +20,16 @@ use triple_table::{IdTriple, Range, Table};
 /// How many triples there are, each of another subject: 85 of each of 70 objects.
 const TRIPLES: u32 = 5950;
 
-/// Their lines.
+/// The line of the triple of a subject and an object, by their numbers.
+fn line(alloc: Global, subject: u32, object: u32) -> Result<String, Fail> {
+    Ok(format!(in alloc; "<http://e/s{subject}> <http://e/k> <http://e/o{object}> .\n")?)
+}
+
+/// The lines of the triples.
 fn data(alloc: Global) -> Result<String, Fail> {
     let mut text = String::new(alloc);
     for i in 0..TRIPLES {
-        let (subject, object) = (1000 + i, 10 + i % 70);
-        let line = format!(in alloc;
-            "<http://e/s{subject}> <http://e/k> <http://e/o{object}> .\n"
-        )?;
+        let line = line(alloc, 1000 + i, 10 + i % 70)?;
         text.push_str(&line)?;
     }
     Ok(text)
@@ -37,31 +40,24 @@ fn table(alloc: Global) -> Result<Table, Fail> {
     Ok(table_of(alloc, &text)?)
 }
 
-fn iri(alloc: Global, text: &str) -> Result<Slot, Fail> {
-    match Term::iri(alloc, text) {
-        Ok(term) => Ok(Slot::Fixed(term)),
-        Err(_) => Err(Fail::new("no IRI")),
+/// The slots that a number between two texts gives.
+fn row(alloc: Global, front: &str, number: u32, end: &str) -> Result<Slots, Fail> {
+    let texts = format!(in alloc; "{front}{number}{end}")?;
+    slots(alloc, &texts)
+}
+
+/// Adds the slots of the numbers of a range between two texts.
+fn add_rows(
+    alloc: Global,
+    front: &str,
+    numbers: ops::Range<u32>,
+    end: &str,
+    rows: &mut Vec<Slots>,
+) -> Result<(), Fail> {
+    for number in numbers {
+        rows.push(row(alloc, front, number, end)?)?;
     }
-}
-
-fn of_object(alloc: Global, number: u32) -> Result<Slots, Fail> {
-    let text = format!(in alloc; "http://e/o{number}")?;
-    let object = iri(alloc, &text)?;
-    Ok(Slots {
-        subject: Slot::Any,
-        predicate: Slot::Any,
-        object,
-    })
-}
-
-fn of_subject(alloc: Global, number: u32) -> Result<Slots, Fail> {
-    let text = format!(in alloc; "http://e/s{number}")?;
-    let subject = iri(alloc, &text)?;
-    Ok(Slots {
-        subject,
-        predicate: Slot::Any,
-        object: Slot::Any,
-    })
+    Ok(())
 }
 
 /// The rows of the first so many objects, and behind them those of the first so many subjects.
@@ -70,29 +66,26 @@ fn rows_of(alloc: Global, objects: u32, subjects: u32) -> Result<Vec<Slots>, Fai
     requires subjects { subjects ≤ MOST_ROWS }
 {
     let mut rows = Vec::new(alloc);
-    for i in 0..objects {
-        rows.push(of_object(alloc, 10 + i)?)?;
-    }
-    for i in 0..subjects {
-        rows.push(of_subject(alloc, 1000 + i)?)?;
-    }
+    add_rows(alloc, ",,http://e/o", 10..10 + objects, "", &mut rows)?;
+    add_rows(alloc, "http://e/s", 1000..1000 + subjects, ",,", &mut rows)?;
     Ok(rows)
 }
 
-/// Whether the triple at a place of a range matches a row.
-fn is_left(table: &Table, range: &Range, i: usize, rows: &[Slots]) -> bool
-    requires range { IsRange table.now range.now }
-    requires within { i < range.now.to - range.now.from }
+/// Whether the triple of these ids matches a row.
+fn matches(table: &Table, ids: IdTriple, row: &Slots) -> bool
+    requires { IsIdTriple (held_terms table.now) ids }
 {
-    let ids = table.at(range, i);
-    let subject = table.term(ids.subject);
-    let predicate = table.term(ids.predicate);
-    let object = table.term(ids.object);
+    row.subject.matches(table.term(ids.subject))
+        && row.predicate.matches(table.term(ids.predicate))
+        && row.object.matches(table.term(ids.object))
+}
+
+/// Whether the triple of these ids matches one of the rows.
+fn is_left(table: &Table, ids: IdTriple, rows: &[Slots]) -> bool
+    requires { IsIdTriple (held_terms table.now) ids }
+{
     for row in rows {
-        if row.subject.matches(subject)
-            && row.predicate.matches(predicate)
-            && row.object.matches(object)
-        {
+        if matches(table, ids, row) {
             return true;
         }
     }
@@ -110,8 +103,9 @@ fn left_of(
 {
     let mut left = Vec::new(alloc);
     for i in 0..table.count(range) {
-        if is_left(table, range, i, rows) {
-            left.push(table.at(range, i))?;
+        let ids = table.at(range, i);
+        if is_left(table, ids, rows) {
+            left.push(ids)?;
         }
     }
     Ok(left)
@@ -137,8 +131,36 @@ fn all_pages<L: Ledger>(
     Ok((triples, 10))
 }
 
-/// Whether the pages are what the rows leave of the fragment, how many triples they have together, and how many
-/// pages there are.
+/// The triples of the fragment that match a row.
+fn filtered<L: Ledger>(
+    alloc: Global,
+    table: &Table,
+    slots: &Slots,
+    rows: &[Slots],
+    steps: &mut Steps<L>,
+) -> Result<Vec<IdTriple>, Fail> {
+    match page(table, slots, 1, 1, steps) {
+        Some(view) => left_of(alloc, table, &view.range, rows),
+        None => Err(Fail::new("no fragment")),
+    }
+}
+
+/// Whether the pages have these triples together, how many triples these are, and how many pages there are.
+fn compare_pages<L: Ledger>(
+    alloc: Global,
+    table: &Table,
+    slots: &Slots,
+    rows: &[Slots],
+    left: &[IdTriple],
+    steps: &mut Steps<L>,
+) -> Result<(bool, usize, u64), Fail>
+    requires { 1 ≤ length rows.now }
+{
+    let (triples, pages) = all_pages(alloc, table, slots, rows, steps)?;
+    Ok((triples.as_slice() == left, left.len(), pages))
+}
+
+/// Whether the pages are what the rows leave of the fragment, how many triples that are, and how many pages there are.
 fn compare<L: Ledger>(
     alloc: Global,
     table: &Table,
@@ -152,12 +174,8 @@ fn compare<L: Ledger>(
     requires rows { 1 ≤ length rows.now }
 {
     let mut steps: Steps<L> = Steps::new(blank);
-    let Some(view) = page(table, slots, 1, 1, &mut steps) else {
-        return Err(Fail::new("no fragment"));
-    };
-    let left = left_of(alloc, table, &view.range, rows)?;
-    let (triples, pages) = all_pages(alloc, table, slots, rows, &mut steps)?;
-    Ok((triples == left, triples.len(), pages))
+    let left = filtered(alloc, table, slots, rows, &mut steps)?;
+    compare_pages(alloc, table, slots, rows, &left, &mut steps)
 }
 
 fn compared(
@@ -172,15 +190,6 @@ fn compared(
     compare::<Brand>(alloc, table, slots, rows, Blank::new(1))
 }
 
-/// The slots of which the predicate is fixed.
-fn known(alloc: Global) -> Result<Slots, Fail> {
-    Ok(Slots {
-        subject: Slot::Any,
-        predicate: iri(alloc, "http://e/k")?,
-        object: Slot::Any,
-    })
-}
-
 /// How many objects and subjects the rows are of, and how many triples and pages that leaves: rows of one kind and of
 /// two, many triples and few.
 const LEFT: [(u32, u32, usize, u64); 5] = [
@@ -191,21 +200,41 @@ const LEFT: [(u32, u32, usize, u64); 5] = [
     (1, 0, 85, 1),
 ];
 
-fn show_all(alloc: Global, table: &Table, slots: &Slots) -> Result<bool, Fail> {
+/// Whether the rows of so many objects and subjects leave so many triples on so many pages.
+fn shows(
+    alloc: Global,
+    table: &Table,
+    slots: &Slots,
+    (objects, subjects, count, pages): (u32, u32, usize, u64),
+) -> Result<bool, Fail> {
     let most = MOST_ROWS as u32;
-    for (objects, subjects, count, pages) in LEFT {
-        let rows = rows_of(alloc, objects.min(most), subjects.min(most))?;
-        if compared(alloc, table, slots, &rows)? != (true, count, pages) {
+    let rows = rows_of(alloc, objects.min(most), subjects.min(most))?;
+    let found = compared(alloc, table, slots, &rows)?;
+    Ok(found == (true, count, pages))
+}
+
+fn show_all(alloc: Global, table: &Table, slots: &Slots) -> Result<bool, Fail> {
+    for left in LEFT {
+        if !shows(alloc, table, slots, left)? {
             return Ok(false);
         }
     }
     Ok(true)
 }
 
+/// The same of the slots of these texts.
+fn show_texts(alloc: Global, table: &Table, texts: &str) -> Result<bool, Fail> {
+    let slots = slots(alloc, texts)?;
+    show_all(alloc, table, &slots)
+}
+
+fn show_both(alloc: Global, table: &Table) -> Result<bool, Fail> {
+    Ok(show_texts(alloc, table, ",,")? && show_texts(alloc, table, ",http://e/k,")?)
+}
+
 #[test]
 fn pages_are_what_the_rows_leave_of_the_fragment(rt: HostRuntime) -> Result<(), Fail> {
     let table = table(rt.alloc())?;
-    assert!(rt; show_all(rt.alloc(), &table, &free())?);
-    assert!(rt; show_all(rt.alloc(), &table, &known(rt.alloc())?)?);
+    assert!(rt; show_both(rt.alloc(), &table)?);
     Ok(())
 }

@@ -1,17 +1,18 @@
 // `http_wire` and `tpf_server`.
-use http_wire::{Fed, ReplyFeed};
+use http_wire::{Fed, Reply, ReplyFeed};
 use std::process::Abort;
 use std::test::Fail;
 use test_servers::server_of;
 use tpf_base::USUAL_PAGE;
 use tpf_server::{Connection, Server};
 
+fn is_abc<R: Abort + AllocGlobal>(rt: &R, reply: &Reply) {
+    assert!(rt; reply.body.as_slice() == b"abc".as_slice() && reply.keeps);
+}
+
 fn is_whole<R: Abort + AllocGlobal>(rt: &R, feed: ReplyFeed) -> Result<(), Fail> {
     let reply = feed.take().ok_or("a whole reply")?;
-    assert_eq!(rt;
-        (reply.body.as_slice(), reply.keeps),
-        (b"abc".as_slice(), true)
-    );
+    is_abc(rt, &reply);
     Ok(())
 }
 

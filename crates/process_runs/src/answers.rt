@@ -2,15 +2,20 @@
 
 use std::{io, str};
 
+/// Prints rows, each on a line of its own.
+fn show_each<R: Print>(rt: &R, rows: &[&str]) -> io::Result<()> {
+    for row in rows {
+        println!(rt; "{row}")?;
+    }
+    Ok(())
+}
+
 /// Prints what stands between the braces of rows, each on a line of its own, sorted, since a query says
 /// nothing of the order of its rows.
 fn show_rows<R: Print + AllocGlobal>(rt: &R, rows: &str) -> io::Result<()> {
     let mut sorted: Vec<&str> = rows.split("},{").collect(rt.alloc())?;
     sorted.sort_unstable();
-    for row in &sorted {
-        println!(rt; "{row}")?;
-    }
-    Ok(())
+    show_each(rt, &sorted)
 }
 
 /// Prints an answer with rows, each row on a line of its own.

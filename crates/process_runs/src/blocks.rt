@@ -1,31 +1,18 @@
 // One query of a server that reads rows.
 
-use crate::answers::show;
-use crate::cases::{stop, tell};
+use crate::cases::ask_with;
 use crate::edge::ask_once;
-use crate::programs::{serve, start};
 use std::fmt::Write as _;
 use std::io;
 use std::net::Net;
 use std::process::Processes;
 use std::rt::Files;
 
-/// Asks a server whom one knows and by which names, with some options, and prints the answer.
-fn ask_with<R: Processes + Files + Print + AllocGlobal>(
-    rt: &R,
-    base: &str,
-    options: &[&str],
-) -> io::Result<()> {
-    let client = start(rt, &["query", base, "acquaintances.rq"], options)?;
-    let ended = client.wait_with_output(rt.alloc())?;
-    show(rt, ended.stdout.as_slice())?;
-    tell(rt, "query", &ended, 0)
-}
-
-/// Asks a server in blocks of up to 30 rows, and then row by row.
+/// Asks a server whom one knows and by which names, in blocks of up to 30 rows and then row by row.
 fn ask_both_ways<R: Processes + Files + Print + AllocGlobal>(rt: &R, base: &str) -> io::Result<()> {
-    ask_with(rt, base, &["--block", "30"])?;
-    ask_with(rt, base, &[])
+    let words = ["query", base, "acquaintances.rq"];
+    ask_with(rt, &words, &["--block", "30"])?;
+    ask_with(rt, &words, &[])
 }
 
 /// The path of a page that so many rows restrict.
@@ -57,19 +44,12 @@ fn ask_wrong_rows<R: Net + Print + AllocGlobal>(rt: &R, port: u16) -> io::Result
     ask_rows(rt, "64 rows", port, 64)
 }
 
-fn ask_rows_and_blocks<R: Processes + Files + Net + Print + AllocGlobal>(
+/// Queries in blocks and row by row, and requests whose rows the server refuses.
+pub fn ask_rows_and_blocks<R: Processes + Files + Net + Print + AllocGlobal>(
     rt: &R,
     base: &str,
     port: u16,
 ) -> io::Result<()> {
     ask_both_ways(rt, base)?;
     ask_wrong_rows(rt, port)
-}
-
-/// Queries of a server that reads rows, in blocks and row by row, and requests whose rows it refuses.
-pub fn in_blocks<R: Processes + Files + Net + Print + AllocGlobal>(rt: &R) -> io::Result<()> {
-    println!(rt; "a query in blocks, and row by row")?;
-    let server = serve(rt, "acquaintances.nq", &["--rows"])?;
-    let asked = ask_rows_and_blocks(rt, server.base.as_str(), server.port);
-    stop(rt, server, asked)
 }

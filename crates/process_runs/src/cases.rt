@@ -1,11 +1,10 @@
 // The cases. Each prints what was seen: the stored output of this program says what is to be seen.
 
 use crate::answers::show;
-use crate::blocks::in_blocks;
-use crate::edge::{addresses, large_page, reload_of_no_file, three_connections};
+use crate::edge::{ask_nobody, large_page};
 use crate::files::found_and_dropped;
-use crate::programs::{Server, serve, start};
-use crate::together::two_servers;
+use crate::programs::{outcome, start};
+use crate::served::{Served, Talk, run_case};
 use std::io::{Read, Write};
 use std::net::{Ipv4Addr, Net, TcpStream};
 use std::process::{Child, ExitCode, OpenProcess, Output, Processes};
@@ -35,25 +34,29 @@ pub fn tell<R: Print>(rt: &R, who: &str, ended: &Output, wanted: i32) -> io::Res
     }
 }
 
-/// How a client ended that asked a server the query of a file, one request at a time.
-fn answer_to<R: Processes + Files + AllocGlobal>(
-    rt: &R,
-    base: &str,
-    query: &str,
-) -> io::Result<Output> {
-    let client = start(rt, &["query", base, query], &["--links", "1"])?;
-    client.wait_with_output(rt.alloc())
+/// Prints the answer to a query and how the client ended.
+fn show_and_tell<R: Print + AllocGlobal>(rt: &R, who: &str, ended: &Output) -> io::Result<()> {
+    show(rt, ended.stdout.as_slice())?;
+    tell(rt, who, ended, 0)
 }
 
-/// Asks a server the query of a file, and prints the answer.
-fn ask<R: Processes + Files + Print + AllocGlobal>(
+/// Asks a query with words and then options, and prints the answer.
+pub fn ask_with<R: Processes + Files + Print + AllocGlobal>(
+    rt: &R,
+    words: &[&str],
+    options: &[&str],
+) -> io::Result<()> {
+    let ended = outcome(rt, words, options)?;
+    show_and_tell(rt, words.first().unwrap_or(&""), &ended)
+}
+
+/// Asks a server the query of a file, one request at a time, and prints the answer.
+pub fn ask<R: Processes + Files + Print + AllocGlobal>(
     rt: &R,
     base: &str,
     query: &str,
 ) -> io::Result<()> {
-    let ended = answer_to(rt, base, query)?;
-    show(rt, ended.stdout.as_slice())?;
-    tell(rt, "query", &ended, 0)
+    ask_with(rt, &["query", base, query], &["--links", "1"])
 }
 
 /// Has a server read its file again, and gives its answer.
@@ -65,57 +68,18 @@ fn answer_to_reload<R: Net + AllocGlobal>(rt: &R, port: u16) -> io::Result<Strin
     io::read_to_string(rt.alloc(), stream)
 }
 
-/// Has a server read its file again, and prints the body of what it answers.
-fn reload<R: Net + Print + AllocGlobal>(rt: &R, port: u16) -> io::Result<()> {
-    let answer = answer_to_reload(rt, port)?;
-    match answer.as_str().split_once("\r\n\r\n") {
+/// Prints the body of an answer to a reload.
+fn tell_body<R: Print>(rt: &R, answer: &str) -> io::Result<()> {
+    match answer.split_once("\r\n\r\n") {
         Some((_, body)) => print!(rt; "reload: {body}"),
         None => Err(io::Error::other("the answer to a reload has no body")),
     }
 }
 
-/// Waits for the end of a process, which is ended where it may wait for what does not come.
-pub fn ended_of<R: AllocGlobal, P: OpenProcess + Drop>(
-    rt: &R,
-    mut child: Child<P>,
-    is_lost: bool,
-) -> io::Result<Output> {
-    if is_lost {
-        let _ = child.kill();
-    }
-    child.wait_with_output(rt.alloc())
-}
-
-/// Ends a server, however many connections it had.
-pub fn stop<R: AllocGlobal, P: OpenProcess + Drop>(
-    rt: &R,
-    server: Server<P>,
-    so_far: io::Result<()>,
-) -> io::Result<()> {
-    let Server { child, .. } = server;
-    let _ = ended_of(rt, child, true)?;
-    so_far
-}
-
-/// Waits for the end of a server and prints how it ended. Where something went wrong before, the server
-/// is ended, since it may wait for connections that do not come.
-pub fn end<R: Print + AllocGlobal, P: OpenProcess + Drop>(
-    rt: &R,
-    server: Server<P>,
-    so_far: io::Result<()>,
-) -> io::Result<()> {
-    let Server { child, .. } = server;
-    let ended = ended_of(rt, child, so_far.is_err())?;
-    so_far?;
-    tell(rt, "serve", &ended, 0)
-}
-
-/// A query that is answered by a server, which ends once its one connection has.
-fn query<R: Processes + Files + Net + Print + AllocGlobal>(rt: &R) -> io::Result<()> {
-    println!(rt; "a query")?;
-    let server = serve(rt, "people.nq", &["--stop-after", "1"])?;
-    let asked = ask(rt, server.base.as_str(), "friends.rq");
-    end(rt, server, asked)
+/// Has a server read its file again, and prints the body of what it answers.
+fn reload<R: Net + Print + AllocGlobal>(rt: &R, port: u16) -> io::Result<()> {
+    let answer = answer_to_reload(rt, port)?;
+    tell_body(rt, answer.as_str())
 }
 
 /// Has a server serve the data of another file.
@@ -126,7 +90,7 @@ fn serve_more<R: Files + Net + Print + AllocGlobal>(rt: &R, port: u16) -> io::Re
 }
 
 /// A query, new data, a reload, and the query again.
-fn ask_around_a_reload<R: Processes + Files + Net + Print + AllocGlobal>(
+pub fn ask_around_a_reload<R: Processes + Files + Net + Print + AllocGlobal>(
     rt: &R,
     base: &str,
     port: u16,
@@ -134,21 +98,6 @@ fn ask_around_a_reload<R: Processes + Files + Net + Print + AllocGlobal>(
     ask(rt, base, "friends.rq")?;
     serve_more(rt, port)?;
     ask(rt, base, "friends.rq")
-}
-
-/// A server whose data change between two queries.
-fn reload_between_queries<R: Processes + Files + Net + Print + AllocGlobal>(
-    rt: &R,
-) -> io::Result<()> {
-    println!(rt; "a reload between two queries")?;
-    fs::copy(rt, "people.nq", "served.nq")?;
-    let server = serve(
-        rt,
-        "served.nq",
-        &["--reload", "/reload", "--stop-after", "3"],
-    )?;
-    let asked = ask_around_a_reload(rt, server.base.as_str(), server.port);
-    end(rt, server, asked)
 }
 
 /// Waits until a client has written some bytes.
@@ -160,6 +109,16 @@ fn read_some<P: OpenProcess>(client: &mut Child<P>) -> io::Result<()> {
     }
 }
 
+/// Has a server read its file again when a client has written some bytes.
+fn read_and_reload<R: Net + Print + AllocGlobal, P: OpenProcess>(
+    rt: &R,
+    port: u16,
+    client: &mut Child<P>,
+) -> io::Result<()> {
+    read_some(client)?;
+    reload(rt, port)
+}
+
 /// Asks for all triples, and has the server read its file again when rows of the first page have come. The
 /// client can't have asked for the last page by then: its answer is longer than what a pipe holds, and
 /// nobody reads it until the reload is done.
@@ -169,76 +128,165 @@ fn answer_across_a_reload<R: Processes + Files + Net + Print + AllocGlobal>(
     port: u16,
 ) -> io::Result<Output> {
     let mut client = start(rt, &["query", base, "all.rq"], &["--links", "1"])?;
-    read_some(&mut client)?;
-    reload(rt, port)?;
+    read_and_reload(rt, port, &mut client)?;
     client.wait_with_output(rt.alloc())
 }
 
-/// Asks so, and prints whether the answer is whole.
-fn ask_across_a_reload<R: Processes + Files + Net + Print + AllocGlobal>(
-    rt: &R,
-    base: &str,
-    port: u16,
-) -> io::Result<()> {
-    let ended = answer_across_a_reload(rt, base, port)?;
+/// Prints whether an answer is whole, and how the client ended.
+fn tell_whether_whole<R: Print>(rt: &R, ended: &Output) -> io::Result<()> {
     let whole = if ended.stdout.as_slice().ends_with(END_OF_ANSWER) {
         "is whole"
     } else {
         "breaks off"
     };
     println!(rt; "the answer {whole}")?;
-    tell(rt, "query", &ended, 11)
+    tell(rt, "query", ended, 11)
 }
 
-/// Writes the file of a large data set.
-fn make_persons<R: Processes + Files + Print + AllocGlobal>(rt: &R) -> io::Result<()> {
-    let made = start(rt, &["make", "2000"], &[])?.wait_with_output(rt.alloc())?;
-    tell(rt, "make", &made, 0)?;
+/// Asks so, and prints whether the answer is whole.
+pub fn ask_across_a_reload<R: Processes + Files + Net + Print + AllocGlobal>(
+    rt: &R,
+    base: &str,
+    port: u16,
+) -> io::Result<()> {
+    let ended = answer_across_a_reload(rt, base, port)?;
+    tell_whether_whole(rt, &ended)
+}
+
+/// Prints how this program ended that made data, and writes them to a file.
+fn keep_persons<R: Files + Print>(rt: &R, made: &Output) -> io::Result<()> {
+    tell(rt, "make", made, 0)?;
     fs::write(rt, "persons.nq", &made.stdout)
 }
 
-/// A server whose data change while a query asks for them.
-fn reload_between_pages<R: Processes + Files + Net + Print + AllocGlobal>(
-    rt: &R,
-) -> io::Result<()> {
-    println!(rt; "a reload between two pages of a query")?;
-    make_persons(rt)?;
-    let server = serve(
-        rt,
-        "persons.nq",
-        &["--reload", "/reload", "--stop-after", "2"],
-    )?;
-    let asked = ask_across_a_reload(rt, server.base.as_str(), server.port);
-    end(rt, server, asked)
+/// Writes the file of a large data set.
+pub fn make_persons<R: Processes + Files + Print + AllocGlobal>(rt: &R) -> io::Result<()> {
+    let made = outcome(rt, &["make", "2000"], &[])?;
+    keep_persons(rt, &made)
+}
+
+/// Prints what a query of a file wrote, and how it ended.
+fn tell_local<R: Print>(rt: &R, ended: &Output) -> io::Result<()> {
+    rt.write_all(ended.stdout.as_slice())?;
+    println!(rt; "")?;
+    tell(rt, "local", ended, 7)
 }
 
 /// Asks the data of a file in one process for more than a budget allows, and prints what was written.
 fn pass_budget<R: Processes + Files + Print + AllocGlobal>(rt: &R) -> io::Result<()> {
     println!(rt; "a budget that does not suffice")?;
-    let ended = start(rt, &["local", "knows.nq", "knows.rq"], &["--budget", "3"])?.wait_with_output(
-        rt.alloc(),
-    )?;
-    rt.write_all(ended.stdout.as_slice())?;
-    println!(rt; "")?;
-    tell(rt, "local", &ended, 7)
+    let ended = outcome(rt, &["local", "knows.nq", "knows.rq"], &["--budget", "3"])?;
+    tell_local(rt, &ended)
 }
 
+/// What a case is about, and the server that is asked in it.
+type Case = (&'static str, Served<'static>);
+
 /// The cases over a server that is asked as it should be.
-fn run_plain<R: Processes + Files + Net + Print + AllocGlobal>(rt: &R) -> io::Result<()> {
+const PLAIN: [Case; 5] = [
+    (
+        "a query",
+        Served {
+            file: "people.nq",
+            options: &["--stop-after", "1"],
+            talk: Talk::Query,
+            ends: true,
+        },
+    ),
+    (
+        "a reload between two queries",
+        Served {
+            file: "served.nq",
+            options: &["--reload", "/reload", "--stop-after", "3"],
+            talk: Talk::AroundAReload,
+            ends: true,
+        },
+    ),
+    (
+        "a reload between two pages of a query",
+        Served {
+            file: "persons.nq",
+            options: &["--reload", "/reload", "--stop-after", "2"],
+            talk: Talk::AcrossAReload,
+            ends: true,
+        },
+    ),
+    (
+        "a query of two servers",
+        Served {
+            file: "knows.nq",
+            options: &["--page", "2"],
+            talk: Talk::Beside,
+            ends: false,
+        },
+    ),
+    (
+        "a query in blocks, and row by row",
+        Served {
+            file: "acquaintances.nq",
+            options: &["--rows"],
+            talk: Talk::Blocks,
+            ends: false,
+        },
+    ),
+];
+
+/// Connections at once.
+const CONNECTIONS: [Case; 1] = [(
+    "three connections, of which one is reset and one refused",
+    Served {
+        file: "people.nq",
+        options: &["--stop-after", "3"],
+        talk: Talk::ThreeConnections,
+        ends: true,
+    },
+)];
+
+/// An address that is taken, and a file that can't be read again.
+const ADDRESSES: [Case; 2] = [
+    (
+        "a server at an address that is taken",
+        Served {
+            file: "people.nq",
+            options: &["--stop-after", "1"],
+            talk: Talk::Twice,
+            ends: true,
+        },
+    ),
+    (
+        "a reload of what is no regular file",
+        Served {
+            file: "/dev/stdin",
+            options: &["--reload", "/reload", "--stop-after", "1"],
+            talk: Talk::Reload,
+            ends: true,
+        },
+    ),
+];
+
+/// Runs cases, one after the other.
+fn run_each<R: Processes + Files + Net + Clock + Print + AllocGlobal>(
+    rt: &R,
+    cases: &[Case],
+) -> io::Result<()> {
+    for (title, served) in cases {
+        run_case(rt, *title, served)?;
+    }
+    Ok(())
+}
+
+/// A query in one process, and the cases over a server that is asked as it should be.
+fn run_plain<R: Processes + Files + Net + Clock + Print + AllocGlobal>(rt: &R) -> io::Result<()> {
     pass_budget(rt)?;
-    query(rt)?;
-    reload_between_queries(rt)?;
-    reload_between_pages(rt)?;
-    two_servers(rt)?;
-    in_blocks(rt)
+    run_each(rt, &PLAIN)
 }
 
 /// The cases at the edge of what the system gives.
 fn run_edge<R: Processes + Files + Net + Clock + Print + AllocGlobal>(rt: &R) -> io::Result<()> {
     large_page(rt)?;
-    three_connections(rt)?;
-    addresses(rt)?;
-    reload_of_no_file(rt)
+    run_each(rt, &CONNECTIONS)?;
+    ask_nobody(rt)?;
+    run_each(rt, &ADDRESSES)
 }
 
 /// Runs every case, and prints what is seen of each. It fails where one could not be run to its end, with the fault of

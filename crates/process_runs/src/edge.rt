@@ -1,8 +1,9 @@
 // What strangers do to a server's sockets: one that does not read, one that resets its connection, one that is
 // refused; and a host at which nobody listens.
 
-use crate::cases::{end, tell};
-use crate::programs::{free_port, serve, start};
+use crate::cases::tell;
+use crate::programs::{address_at, free_port, outcome};
+use crate::served::{Served, Talk, serve_and_ask};
 use std::fmt::Write as _;
 use std::io::{Read, Write};
 use std::net::{Ipv4Addr, Net, OpenStream, TcpStream};
@@ -54,30 +55,44 @@ fn connect<R: Net>(rt: &R, port: u16) -> io::Result<R::Stream> {
     Ok(stream)
 }
 
+/// What stands behind the path in the head of the last request on a connection.
+const LAST: &str = " HTTP/1.1\r\nHost: localhost\r\nConnection: close\r\n\r\n";
+
+/// Writes texts, one after the other.
+fn write_each<S: Write>(stream: &mut S, texts: &[&str]) -> io::Result<()> {
+    for text in texts {
+        stream.write_all(text.as_bytes())?;
+    }
+    Ok(())
+}
+
 /// The last request on a connection.
 fn ask_last<S: Write>(stream: &mut S, method: &str, path: &str) -> io::Result<()> {
-    stream.write_all(method.as_bytes())?;
-    stream.write_all(b" ")?;
-    stream.write_all(path.as_bytes())?;
-    stream.write_all(b" HTTP/1.1\r\nHost: localhost\r\nConnection: close\r\n\r\n")
+    write_each(stream, &[method, " ", path, LAST])
+}
+
+/// The text of an answer.
+fn text_of(answer: Vec<u8>) -> io::Result<String> {
+    match String::from_utf8(answer) {
+        Ok(text) => Ok(text),
+        Err(_) => Err(io::Error::other("the answer is no text")),
+    }
 }
 
 /// Reads what comes until the end of a connection, as text.
 fn read_whole<R: AllocGlobal, S: Read>(rt: &R, stream: &mut S) -> io::Result<String> {
     let mut bytes = Vec::new(rt.alloc());
     stream.read_to_end(&mut bytes)?;
-    match String::from_utf8(bytes) {
-        Ok(text) => Ok(text),
-        Err(_) => Err(io::Error::other("the answer is no text")),
-    }
+    text_of(bytes)
 }
 
 /// Prints the first line of an answer.
 fn tell_answer<R: Print>(rt: &R, who: &str, answer: &str) -> io::Result<()> {
-    match answer.split_once("\r\n") {
-        Some((line, _)) => println!(rt; "{who}: {line}"),
-        None => println!(rt; "{who}: no head"),
-    }
+    let line = match answer.split_once("\r\n") {
+        Some((line, _)) => line,
+        None => "no head",
+    };
+    println!(rt; "{who}: {line}")
 }
 
 /// Reads an answer to its end, and prints its first line.
@@ -88,6 +103,18 @@ fn tell_whole<R: Print + AllocGlobal, S: Read>(
 ) -> io::Result<()> {
     let answer = read_whole(rt, stream)?;
     tell_answer(rt, who, answer.as_str())
+}
+
+/// Asks on a connection, reads the answer to its end, and prints its first line.
+fn ask_and_tell<R: Print + AllocGlobal, S: Read + Write>(
+    rt: &R,
+    who: &str,
+    stream: &mut S,
+    method: &str,
+    path: &str,
+) -> io::Result<()> {
+    ask_last(stream, method, path)?;
+    tell_whole(rt, who, stream)
 }
 
 /// How many of the lines stand in an answer, in their order.
@@ -112,18 +139,27 @@ fn large_answer<R: Net + Clock + AllocGlobal>(rt: &R, port: u16) -> io::Result<S
     read_whole(rt, &mut late)
 }
 
-/// The same, and prints how many lines of the data came.
+/// Prints the first line of an answer, and how many lines of the data came.
+fn tell_late<R: Print>(rt: &R, answer: &str, lines: &str) -> io::Result<()> {
+    tell_answer(rt, "a reader that waits", answer)?;
+    println!(rt; "lines of the data: {}", count_lines(lines, answer))
+}
+
+/// Asks so, and prints what came.
 fn read_late<R: Net + Clock + Print + AllocGlobal>(
     rt: &R,
     port: u16,
     lines: &str,
 ) -> io::Result<()> {
     let answer = large_answer(rt, port)?;
-    tell_answer(rt, "a reader that waits", answer.as_str())?;
-    println!(rt;
-        "lines of the data: {}",
-        count_lines(lines, answer.as_str())
-    )
+    tell_late(rt, answer.as_str(), lines)
+}
+
+/// Asks on three connections at once.
+fn ask_each<S: Write>(reload: &mut S, first: &mut S, second: &mut S) -> io::Result<()> {
+    ask_last(reload, "POST", "/reload")?;
+    ask_last(first, "HEAD", "/data")?;
+    ask_last(second, "HEAD", "/elsewhere")
 }
 
 /// Asks on three connections at once, and then reads the answers.
@@ -133,23 +169,31 @@ fn ask_three<R: Print + AllocGlobal, S: Read + Write>(
     first: &mut S,
     second: &mut S,
 ) -> io::Result<()> {
-    ask_last(reload, "POST", "/reload")?;
-    ask_last(first, "HEAD", "/data")?;
-    ask_last(second, "HEAD", "/elsewhere")?;
+    ask_each(reload, first, second)?;
     tell_whole(rt, "a reload", reload)?;
     tell_whole(rt, "beside it", first)?;
     tell_whole(rt, "and", second)
 }
 
+/// Asks on a connection and on two more.
+fn ask_on_two_more<R: Net + Print + AllocGlobal>(
+    rt: &R,
+    port: u16,
+    reload: &mut R::Stream,
+) -> io::Result<()> {
+    let mut first = connect(rt, port)?;
+    let mut second = connect(rt, port)?;
+    ask_three(rt, reload, &mut first, &mut second)
+}
+
 /// Asks on two connections while the server reads its file again, so that it is told of both at once.
 fn ask_together<R: Net + Print + AllocGlobal>(rt: &R, port: u16) -> io::Result<()> {
     let mut reload = connect(rt, port)?;
-    let mut first = connect(rt, port)?;
-    let mut second = connect(rt, port)?;
-    ask_three(rt, &mut reload, &mut first, &mut second)
+    ask_on_two_more(rt, port, &mut reload)
 }
 
-fn ask_late_and_together<R: Net + Clock + Print + AllocGlobal>(
+/// Asks for the large page, and then on three connections at once.
+pub fn ask_late_and_together<R: Net + Clock + Print + AllocGlobal>(
     rt: &R,
     port: u16,
     lines: &str,
@@ -164,13 +208,19 @@ fn serve_large<R: Processes + Files + Net + Clock + Print + AllocGlobal>(
     lines: &str,
 ) -> io::Result<()> {
     fs::write(rt, "large.nq", lines)?;
-    let server = serve(
-        rt,
-        "large.nq",
-        &["--reload", "/reload", "--stop-after", "4"],
-    )?;
-    let so_far = ask_late_and_together(rt, server.port, lines);
-    end(rt, server, so_far)
+    let served = Served {
+        file: "large.nq",
+        options: &["--reload", "/reload", "--stop-after", "4"],
+        talk: Talk::LargePage(lines),
+        ends: true,
+    };
+    serve_and_ask(rt, &served)
+}
+
+/// The data of the large page.
+fn large_text<R: AllocGlobal>(rt: &R) -> io::Result<String> {
+    let long = long_literal(rt)?;
+    large_lines(rt, long.as_str())
 }
 
 /// A page of five megabytes for a reader that waits first, and connections that ask at once.
@@ -178,26 +228,36 @@ pub fn large_page<R: Processes + Files + Net + Clock + Print + AllocGlobal>(
     rt: &R,
 ) -> io::Result<()> {
     println!(rt; "a page of some megabytes")?;
-    let long = long_literal(rt)?;
-    let lines = large_lines(rt, long.as_str())?;
+    let lines = large_text(rt)?;
     serve_large(rt, lines.as_str())
 }
 
-/// Leaves an answer unread, so that the system resets the connection.
-fn reset<S: OpenStream + Read + Write + Drop>(mut stream: S) -> io::Result<()> {
+/// Asks for a page, and waits until the answer begins to come.
+fn await_answer<S: OpenStream + Read + Write>(stream: &mut S) -> io::Result<()> {
     stream.write_all(b"GET /data HTTP/1.1\r\nHost: localhost\r\n\r\n")?;
     let mut byte = [0u8; 1];
     let _ = stream.peek(&mut byte)?;
     Ok(())
 }
 
-/// Sends what is no head, and more behind it, at once.
-fn send_no_head<R: AllocGlobal, S: Write>(rt: &R, stream: &mut S) -> io::Result<()> {
+/// Leaves an answer unread, so that the system resets the connection.
+fn reset<S: OpenStream + Read + Write + Drop>(mut stream: S) -> io::Result<()> {
+    await_answer(&mut stream)
+}
+
+/// What is no head, and more behind it.
+fn no_head<R: AllocGlobal>(rt: &R) -> io::Result<Vec<u8>> {
     let mut bytes = Vec::new(rt.alloc());
     bytes.extend_from_slice(b"no head\r\n\r\n")?;
     for _ in 0..UNREAD {
         bytes.push(b'x')?;
     }
+    Ok(bytes)
+}
+
+/// Sends what is no head, and more behind it, at once.
+fn send_no_head<R: AllocGlobal, S: Write>(rt: &R, stream: &mut S) -> io::Result<()> {
+    let bytes = no_head(rt)?;
     stream.write_all(&bytes)
 }
 
@@ -209,26 +269,35 @@ fn speak_on_two<R: Print + AllocGlobal, S: Read + Write>(
 ) -> io::Result<()> {
     send_no_head(rt, refused)?;
     tell_whole(rt, "what is no head", refused)?;
-    ask_last(kept, "GET", "/data")?;
-    tell_whole(rt, "beside them", kept)
+    ask_and_tell(rt, "beside them", kept, "GET", "/data")
 }
 
-fn speak_on_three<R: Net + Print + AllocGlobal>(rt: &R, port: u16) -> io::Result<()> {
-    let mut kept = connect(rt, port)?;
-    let lost = connect(rt, port)?;
+/// Resets one connection once there is a third, and speaks on the others.
+fn reset_and_speak<R: Net + Print + AllocGlobal>(
+    rt: &R,
+    port: u16,
+    kept: &mut R::Stream,
+    lost: R::Stream,
+) -> io::Result<()> {
     let mut refused = connect(rt, port)?;
     reset(lost)?;
-    speak_on_two(rt, &mut refused, &mut kept)
+    speak_on_two(rt, &mut refused, kept)
 }
 
-/// Three connections at once, of which one is reset and one refused.
-pub fn three_connections<R: Processes + Files + Net + Print + AllocGlobal>(
+/// Speaks on a connection and on two more.
+fn speak_on_two_more<R: Net + Print + AllocGlobal>(
     rt: &R,
+    port: u16,
+    kept: &mut R::Stream,
 ) -> io::Result<()> {
-    println!(rt; "three connections, of which one is reset and one refused")?;
-    let server = serve(rt, "people.nq", &["--stop-after", "3"])?;
-    let so_far = speak_on_three(rt, server.port);
-    end(rt, server, so_far)
+    let lost = connect(rt, port)?;
+    reset_and_speak(rt, port, kept, lost)
+}
+
+/// Speaks on three connections at once, of which one is reset and one refused.
+pub fn speak_on_three<R: Net + Print + AllocGlobal>(rt: &R, port: u16) -> io::Result<()> {
+    let mut kept = connect(rt, port)?;
+    speak_on_two_more(rt, port, &mut kept)
 }
 
 /// Asks for a page on a connection of its own, and prints the first line of the answer.
@@ -240,8 +309,7 @@ pub fn ask_once<R: Net + Print + AllocGlobal>(
     path: &str,
 ) -> io::Result<()> {
     let mut stream = connect(rt, port)?;
-    ask_last(&mut stream, method, path)?;
-    tell_whole(rt, who, &mut stream)
+    ask_and_tell(rt, who, &mut stream, method, path)
 }
 
 /// Starts this program, waits for its end, and prints how it ended.
@@ -250,12 +318,12 @@ pub fn run_to_end<R: Processes + Files + Print + AllocGlobal>(
     words: &[&str],
     wanted: i32,
 ) -> io::Result<()> {
-    let ended = start(rt, words, &[])?.wait_with_output(rt.alloc())?;
+    let ended = outcome(rt, words, &[])?;
     tell(rt, words.first().unwrap_or(&""), &ended, wanted)
 }
 
 /// A second server at an address that is taken.
-fn serve_twice<R: Processes + Files + Net + Print + AllocGlobal>(
+pub fn serve_twice<R: Processes + Files + Net + Print + AllocGlobal>(
     rt: &R,
     base: &str,
     port: u16,
@@ -267,35 +335,12 @@ fn serve_twice<R: Processes + Files + Net + Print + AllocGlobal>(
 /// An address at which nobody listens.
 pub fn nobody<R: Net + AllocGlobal>(rt: &R) -> io::Result<String> {
     let port = free_port(rt)?;
-    Ok(format!(in rt.alloc(); "http://127.0.0.1:{port}/data")?)
+    address_at(rt, port)
 }
 
 /// A query to an address at which nobody listens.
-fn ask_nobody<R: Processes + Files + Net + Print + AllocGlobal>(rt: &R) -> io::Result<()> {
+pub fn ask_nobody<R: Processes + Files + Net + Print + AllocGlobal>(rt: &R) -> io::Result<()> {
     println!(rt; "a query to an address at which nobody listens")?;
     let base = nobody(rt)?;
     run_to_end(rt, &["query", base.as_str(), "friends.rq"], 5)
-}
-
-/// Addresses at which nobody listens, or another program does.
-pub fn addresses<R: Processes + Files + Net + Print + AllocGlobal>(rt: &R) -> io::Result<()> {
-    ask_nobody(rt)?;
-    println!(rt; "a server at an address that is taken")?;
-    let server = serve(rt, "people.nq", &["--stop-after", "1"])?;
-    let so_far = serve_twice(rt, server.base.as_str(), server.port);
-    end(rt, server, so_far)
-}
-
-/// A reload of what is no regular file, and can't be read again.
-pub fn reload_of_no_file<R: Processes + Files + Net + Print + AllocGlobal>(
-    rt: &R,
-) -> io::Result<()> {
-    println!(rt; "a reload of what is no regular file")?;
-    let server = serve(
-        rt,
-        "/dev/stdin",
-        &["--reload", "/reload", "--stop-after", "1"],
-    )?;
-    let so_far = ask_once(rt, "a reload", server.port, "POST", "/reload");
-    end(rt, server, so_far)
 }

@@ -16,6 +16,7 @@ mod cases;
 mod edge;
 mod files;
 mod programs;
+mod served;
 mod together;
 
 pub use cases::report;

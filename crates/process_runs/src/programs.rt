@@ -2,7 +2,7 @@
 
 use std::io::{ErrorKind, Read};
 use std::net::{Ipv4Addr, Net, OpenListener, TcpListener};
-use std::process::{Child, Command, OpenProcess, Processes, Stdio};
+use std::process::{Child, Command, OpenProcess, Output, Processes, Stdio};
 use std::rt::Files;
 use std::{env, io};
 
@@ -36,15 +36,29 @@ fn start_with<R: Processes>(
     command.spawn(rt)
 }
 
+/// A command that starts this program.
+fn this_program<R: Files + AllocGlobal>(rt: &R) -> io::Result<Command> {
+    let program = env::current_exe(rt)?;
+    Ok(Command::new(rt.alloc(), program.as_path())?)
+}
+
 /// Starts this program with words and then options. What it writes goes to pipes.
 pub fn start<R: Processes + Files + AllocGlobal>(
     rt: &R,
     words: &[&str],
     options: &[&str],
 ) -> io::Result<Child<R::Started>> {
-    let program = env::current_exe(rt)?;
-    let mut command = Command::new(rt.alloc(), program.as_path())?;
+    let mut command = this_program(rt)?;
     start_with(rt, &mut command, words, options)
+}
+
+/// How this program ended that was started with words and then options, and what it wrote.
+pub fn outcome<R: Processes + Files + AllocGlobal>(
+    rt: &R,
+    words: &[&str],
+    options: &[&str],
+) -> io::Result<Output> {
+    start(rt, words, options)?.wait_with_output(rt.alloc())
 }
 
 /// A server that can be asked.
@@ -57,11 +71,30 @@ pub struct Server<P: OpenProcess> {
     pub base: String,
 }
 
+/// The port at which a listener listens.
+fn port_of<L: OpenListener>(listener: &L) -> io::Result<u16> {
+    let address = listener.local_addr()?;
+    Ok(address.port())
+}
+
 /// A port of the loopback that no program has just now.
 pub fn free_port<R: Net>(rt: &R) -> io::Result<u16> {
     let listener = TcpListener::bind(rt, (Ipv4Addr::LOCALHOST, 0u16))?;
-    let address = listener.local_addr()?;
-    Ok(address.port())
+    port_of(&listener)
+}
+
+/// The address of the first page of a server at a port of the loopback.
+pub fn address_at<R: AllocGlobal>(rt: &R, port: u16) -> io::Result<String> {
+    Ok(format!(in rt.alloc(); "http://127.0.0.1:{port}/data")?)
+}
+
+/// No line, where the end came before it.
+fn no_line(error: io::Error) -> io::Result<bool> {
+    if error.kind() == ErrorKind::UnexpectedEof {
+        Ok(false)
+    } else {
+        Err(error)
+    }
 }
 
 /// Whether what is read next is the line `ready`.
@@ -69,8 +102,7 @@ fn reads_ready<S: Read>(from: &mut S) -> io::Result<bool> {
     let mut line = [0u8; 6];
     match from.read_exact(&mut line) {
         Ok(()) => Ok(line.as_slice() == b"ready\n".as_slice()),
-        Err(error) if error.kind() == ErrorKind::UnexpectedEof => Ok(false),
-        Err(error) => Err(error),
+        Err(error) => no_line(error),
     }
 }
 
@@ -82,16 +114,41 @@ fn is_ready<P: OpenProcess>(child: &mut Child<P>) -> io::Result<bool> {
     }
 }
 
+/// Waits for the end of a server that did not begin. Whether it can't listen at its port.
+fn has_no_door<P: OpenProcess>(child: &mut Child<P>) -> io::Result<bool> {
+    let status = child.wait()?;
+    Ok(status.code() == Some(NO_DOOR))
+}
+
 /// Waits until a server can be asked, or has ended since it can't listen at its port. Whether it can be asked.
 fn begins<P: OpenProcess>(child: &mut Child<P>) -> io::Result<bool> {
     if is_ready(child)? {
-        return Ok(true);
-    }
-    let status = child.wait()?;
-    if status.code() == Some(NO_DOOR) {
+        Ok(true)
+    } else if has_no_door(child)? {
         Ok(false)
     } else {
         Err(io::Error::other("the server did not begin"))
+    }
+}
+
+/// Starts a server at a port of the loopback.
+fn server_at<R: Processes + Files + AllocGlobal>(
+    rt: &R,
+    port: u16,
+    file: &str,
+    options: &[&str],
+) -> io::Result<Server<R::Started>> {
+    let base = address_at(rt, port)?;
+    let child = start(rt, &["serve", file, "--base", base.as_str()], options)?;
+    Ok(Server { child, port, base })
+}
+
+/// Waits until a server can be asked, or gives `None` where it can't listen at its port.
+fn once_begun<P: OpenProcess + Drop>(mut server: Server<P>) -> io::Result<Option<Server<P>>> {
+    if begins(&mut server.child)? {
+        Ok(Some(server))
+    } else {
+        Ok(None)
     }
 }
 
@@ -102,13 +159,8 @@ fn try_serve<R: Processes + Files + Net + AllocGlobal>(
     options: &[&str],
 ) -> io::Result<Option<Server<R::Started>>> {
     let port = free_port(rt)?;
-    let base = format!(in rt.alloc(); "http://127.0.0.1:{port}/data")?;
-    let mut child = start(rt, &["serve", file, "--base", base.as_str()], options)?;
-    if begins(&mut child)? {
-        Ok(Some(Server { child, port, base }))
-    } else {
-        Ok(None)
-    }
+    let server = server_at(rt, port, file, options)?;
+    once_begun(server)
 }
 
 /// Begins a server of a file at a port of the loopback that the system chooses, and waits until it can be

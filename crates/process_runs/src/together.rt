@@ -1,9 +1,9 @@
 // One query over two servers.
 
-use crate::answers::show;
-use crate::cases::{stop, tell};
+use crate::cases::ask_with;
 use crate::edge::{nobody, run_to_end};
-use crate::programs::{serve, start};
+use crate::programs::serve;
+use crate::served::finish;
 use std::io;
 use std::net::Net;
 use std::process::Processes;
@@ -15,11 +15,7 @@ fn ask_both<R: Processes + Files + Print + AllocGlobal>(
     first: &str,
     second: &str,
 ) -> io::Result<()> {
-    let ended = start(rt, &["federate", "knows.rq", first, second], &[])?.wait_with_output(
-        rt.alloc(),
-    )?;
-    show(rt, ended.stdout.as_slice())?;
-    tell(rt, "federate", &ended, 0)
+    ask_with(rt, &["federate", "knows.rq", first, second], &[])
 }
 
 /// Asks a server together with one of the names and one acquaintance more, which has a triple of the first one too.
@@ -29,7 +25,7 @@ fn ask_beside_names<R: Processes + Files + Net + Print + AllocGlobal>(
 ) -> io::Result<()> {
     let second = serve(rt, "names.nq", &["--page", "1"])?;
     let asked = ask_both(rt, first, second.base.as_str());
-    stop(rt, second, asked)
+    finish(rt, second, false, asked)
 }
 
 /// Asks a server together with an address at which nobody listens.
@@ -43,18 +39,10 @@ fn ask_beside_nobody<R: Processes + Files + Net + Print + AllocGlobal>(
 }
 
 /// Asks a server together with two others, one after the other.
-fn ask_beside<R: Processes + Files + Net + Print + AllocGlobal>(
+pub fn ask_beside<R: Processes + Files + Net + Print + AllocGlobal>(
     rt: &R,
     first: &str,
 ) -> io::Result<()> {
     ask_beside_names(rt, first)?;
     ask_beside_nobody(rt, first)
-}
-
-/// Queries of two servers together, which have different data and pages.
-pub fn two_servers<R: Processes + Files + Net + Print + AllocGlobal>(rt: &R) -> io::Result<()> {
-    println!(rt; "a query of two servers")?;
-    let first = serve(rt, "knows.nq", &["--page", "2"])?;
-    let asked = ask_beside(rt, first.base.as_str());
-    stop(rt, first, asked)
 }
