@@ -2,18 +2,11 @@
 //! row, and the solutions of a query over a plain list of triples. Every later evaluation is compared
 //! with these.
 //!
-//! The solutions over triples of a query whose patterns are made by hand, its names being numbers. What
-//! `Query::new` asks of patterns is tested first:
+//! The solutions of a query over triples, the query being read by the parser above:
 //!
 //! ```rust
-//! let triples = triples_of(alloc, data)?;
-//! let patterns = patterns_of(alloc, asked)?;
-//! let texts = texts(alloc, names)?;
-//! if !are_patterns(&patterns, texts.len()) {
-//!     return Err(Fail::new("a number without a name"));
-//! }
-//! let query = Query::new(patterns, texts, Vec::new(alloc));
-//! sorted_lines(alloc, &solutions(alloc, &triples, &query)?)
+//! let query = parse(alloc, query.as_bytes())?;
+//! Ok(solutions(alloc, triples, &query)?)
 //! ```
 #![tactic(auto)]
 

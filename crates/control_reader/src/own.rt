@@ -1,5 +1,5 @@
 // The page of a server of our own, whose controls are compared and not read.
-ghost use Rattle.std.specs.Prelude.{ℕ, ◌≡◌, true, List, is_none, Some, IfOk};
+ghost use Rattle.std.specs.Prelude.{ℕ, ◌≡◌, true, List, codes, is_none, Some, IfOk};
 ghost use Rattle.std.specs.List.{list_all};
 ghost use Rattle.rdf_terms.specs.declared.term.Quad.{Quad};
 ghost use Rattle.tpf_base.specs.Addresses.{IsAddress, authority_of};
@@ -104,6 +104,34 @@ fn has_own_names(template: &Template) -> bool
     template.names("subject") && (template.names("predicate") && template.names("object"))
 }
 
+/// The names of our own of the variables for the subject and the predicate.
+fn own_names(alloc: Global) -> Result<(Text, Text), OutOfMemory>
+    ensures { IfOk result (λ names. names ≡ (codes "subject", codes "predicate")) }
+{
+    let subject = Text::copy(alloc, "subject")?;
+    let predicate = Text::copy(alloc, "predicate")?;
+    Ok((subject, predicate))
+}
+
+/// The form with this template and the variables of our own.
+fn with_own_names(alloc: Global, template: Template) -> Result<Form, OutOfMemory>
+    ensures { IfOk result (λ form. form ≡ record {
+      template = template;
+      subject = codes "subject";
+      predicate = codes "predicate";
+      object = codes "object";
+    }) }
+{
+    let (subject, predicate) = own_names(alloc)?;
+    let object = Text::copy(alloc, "object")?;
+    Ok(Form {
+        template,
+        subject,
+        predicate,
+        object,
+    })
+}
+
 /// The form with this template and the variables of our own, of the authority of the address.
 fn own_form(alloc: Global, text: &str, address: &WebAddress) -> Result<Form, NotOwn>
     ensures { IfOk result (IsOwnForm text.now (authority_of address.now)) }
@@ -115,15 +143,7 @@ fn own_form(alloc: Global, text: &str, address: &WebAddress) -> Result<Form, Not
     if !is_home(&template, address) {
         return Err(NotOwn::Other);
     }
-    let subject = Text::copy(alloc, "subject")?;
-    let predicate = Text::copy(alloc, "predicate")?;
-    let object = Text::copy(alloc, "object")?;
-    Ok(Form {
-        template,
-        subject,
-        predicate,
-        object,
-    })
+    Ok(with_own_names(alloc, template)?)
 }
 
 /// The address of the authority that a text is.

@@ -109,6 +109,9 @@ whole_appended room line old mid new is kept appended =
     appended ∙ ap₂ (λ (l : List ℕ) (n : ℕ). l ++ take n line) kept is ∙ ap (λ (l : List ℕ). old ++ l) (take_all (length line) line (omega arith))
 
 -- one quad more was made
-pub quad_taken : (value before after : List Quad) (i : ℕ) (q made : Quad) → i < length value → before ≡ take i value → ((d : Quad) → slice_index_or value i d ≡ made) → q ≡ made → after ≡ before ++ q ∷ [] → after ≡ take (i + 1) value
-quad_taken value before after i q made h is at same pushed =
-    pushed ∙ (λ k. is k ++ (same ∙ sym (at q)) k ∷ []) ∙ sym (take_more value i q h)
+pub quad_pushed : (value before after : List Quad) (i : ℕ) (q made d : Quad) → slice_index_or value i d ≡ made → q ≡ made → after ≡ before ++ q ∷ [] → after ≡ before ++ slice_index_or value i d ∷ []
+quad_pushed value before after i q made d at same pushed = pushed ∙ ap (λ (x : Quad). before ++ x ∷ []) (same ∙ sym at)
+
+pub quad_taken : (value before after : List Quad) (i : ℕ) (d : Quad) → i < length value → before ≡ take i value → after ≡ before ++ slice_index_or value i d ∷ [] → after ≡ take (i + 1) value
+quad_taken value before after i d h is pushed =
+    pushed ∙ ap (λ (l : List Quad). l ++ slice_index_or value i d ∷ []) is ∙ sym (take_more value i d h)

@@ -4,6 +4,7 @@ use Rattle.std.specs.Prelude.{IfOk, Some}
 use Rattle.std.specs.List.{list_all}
 use Rattle.rdf_terms.specs.declared.term.Term.{Term}
 use Rattle.rdf_terms.specs.declared.term.Quad.{Quad}
+use Rattle.rdf_terms.specs.declared.term.Triple.{Triple}
 use Rattle.rdf_terms.specs.Canon.{after_mark, canonical_form, is_marked}
 use Rattle.hydra_controls.specs.declared.cut.Cut.{Cut}
 use Rattle.hydra_controls.specs.declared.line_text.LineText.{LineText}
@@ -33,10 +34,14 @@ unfolding term_of
 term_is t text (Ok term) is made = made ∙ ap (term_as t.kind) is
 term_is t text (Err e) is made = tt
 
-pub quad_is : (q : QuadText) (s p o g : Term) → s ≡ term_of q.subject → p ≡ term_of q.predicate → o ≡ term_of q.object → g ≡ term_of q.graph
-    → (let quad : Quad = record { triple = record { subject = s; predicate = p; object = o }; graph = Some g } in quad ≡ quad_of q)
+pub triple_is : (q : QuadText) (s p o : Term) → s ≡ term_of q.subject → p ≡ term_of q.predicate → o ≡ term_of q.object
+    → (let triple : Triple = record { subject = s; predicate = p; object = o } in triple ≡ (quad_of q).triple)
 unfolding quad_of
-quad_is q s p o g es ep eo eg = λ i. record { triple = record { subject = es i; predicate = ep i; object = eo i }; graph = Some (eg i) }
+triple_is q s p o es ep eo = λ i. record { subject = es i; predicate = ep i; object = eo i }
+
+pub quad_is : (q : QuadText) (t : Triple) (g : Term) → t ≡ (quad_of q).triple → g ≡ term_of q.graph → (let quad : Quad = record { triple = t; graph = Some g } in quad ≡ quad_of q)
+unfolding quad_of
+quad_is q t g et eg = λ i. record { triple = et i; graph = Some (eg i) }
 
 -- ---- four parts
 

@@ -37,7 +37,7 @@ line_whole l old one two three new first second third fourth = four_appended l.o
 abbrev pub lines_from : List Quad → ℕ → List ℕ
 lines_from quads i = lines_text (drop i quads)
 
-some_quad : Quad
+pub some_quad : Quad
 some_quad = statement [] (Iri []) (Iri []) (Iri [])
 
 next_line : (quads : List Quad) (i : ℕ) (text : List ℕ) → i < length quads → IsLineAt quads i text → lines_from quads i ≡ text ++ lines_from quads (i + 1)

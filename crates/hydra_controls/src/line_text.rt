@@ -32,7 +32,6 @@ impl<'a> LineText<'a> {
     }
 
     /// Appends it.
-    #[tactic(auto, using(list_laws::proofs::Begins::begins_on, crate::proofs::WholeLaws::line_whole))]
     pub(crate) fn append(self, out: &mut Vec<u8>) -> Result<(), OutOfMemory>
         ensures ok { OnOk result (out.new.items ≡ out.old.items ++ text_of_line self.entry) }
         ensures front { Begins out.old.items out.new.items }
@@ -44,7 +43,6 @@ impl<'a> LineText<'a> {
     }
 
     /// Appends what is written of it.
-    #[tactic(auto, using(list_laws::proofs::Begins::begins_on))]
     pub(crate) fn write(self, cut: &mut Cut, out: &mut Vec<u8>) -> Result<(), OutOfMemory>
         ensures ok { OnOk result (Cuts cut.old cut.new (text_of_line self.entry) out.old.items out.new.items) }
         ensures front { Begins out.old.items out.new.items }

@@ -1,5 +1,5 @@
 // The lines of a page's metadata, each made when it is written.
-ghost use Rattle.std.specs.Prelude.{◌≡◌, ◌≤◌, ◌<◌, ◌*◌, ◌^◌, ◌++◌, length, take, drop, nat_lt, IfOk, OnOk, OnErr};
+ghost use Rattle.std.specs.Prelude.{◌≡◌, ◌≤◌, ◌<◌, ◌*◌, ◌^◌, [], ◌∷◌, ◌++◌, length, take, drop, nat_lt, slice_index_or, IfOk, OnOk, OnErr};
 ghost use Rattle.std.specs.List.{AllByRecursion};
 ghost use Rattle.rdf_terms.specs.declared.term.Quad.{Quad};
 ghost use Rattle.list_laws.specs.Begins.{Begins};
@@ -266,6 +266,16 @@ impl MetadataLines {
         taken_back(written, before, out)
     }
 
+    /// Adds the quad in this place.
+    fn push_quad(&self, alloc: Global, i: usize, quads: &mut Vec<Quad>) -> Result<(), OutOfMemory>
+        requires { i < length self.now }
+        ensures { (d : Quad) → OnOk result (quads.new.items ≡ quads.old.items ++ slice_index_or self.now i d ∷ []) }
+    {
+        let quad = self.facts().quad(i).quad(alloc)?;
+        quads.push(quad)?;
+        Ok(())
+    }
+
     /// The quads. `OutOfMemory` comes only when memory ran out.
     pub fn quads(&self, alloc: Global) -> Result<Vec<Quad>, OutOfMemory>
         ensures { IfOk result (λ quads. quads.items ≡ self.now) }
@@ -273,8 +283,7 @@ impl MetadataLines {
         let count = self.count();
         let mut quads = Vec::with_capacity(alloc, count)?;
         for i in 0..count {
-            let quad = self.facts().quad(i).quad(alloc)?;
-            quads.push(quad)?;
+            self.push_quad(alloc, i, &mut quads)?;
         }
         Ok(quads)
     }

@@ -17,20 +17,28 @@ pub(crate) struct QuadText<'a> {
 }
 
 impl<'a> QuadText<'a> {
+    /// The triple of its first three terms.
+    fn bare_triple(self, alloc: Global) -> Result<Triple, OutOfMemory>
+        requires { AreTerms self }
+        ensures { IfOk result (λ triple. triple ≡ (quad_of self.entry).triple) }
+    {
+        let subject = self.subject.term(alloc)?;
+        let predicate = self.predicate.term(alloc)?;
+        let object = self.object.term(alloc)?;
+        Ok(Triple {
+            subject,
+            predicate,
+            object,
+        })
+    }
+
     /// The quad.
     pub(crate) fn quad(self, alloc: Global) -> Result<Quad, OutOfMemory>
         requires { AreTerms self }
         ensures { IfOk result (λ quad. quad ≡ quad_of self.entry) }
     {
-        let subject = self.subject.term(alloc)?;
-        let predicate = self.predicate.term(alloc)?;
-        let object = self.object.term(alloc)?;
+        let triple = self.bare_triple(alloc)?;
         let graph = self.graph.term(alloc)?;
-        let triple = Triple {
-            subject,
-            predicate,
-            object,
-        };
         let graph = Some(graph);
         Ok(Quad { triple, graph })
     }

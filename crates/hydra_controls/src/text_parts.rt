@@ -148,15 +148,24 @@ impl<'a> TextParts<'a> {
         }
     }
 
+    /// Adds the parts to a text.
+    #[tactic(auto, using(crate::proofs::WholeLaws::text_whole))]
+    fn add_to(self, text: &mut String) -> Result<(), OutOfMemory>
+        ensures { OnOk result (string_bytes text.new ≡ string_bytes text.old ++ text_of self.entry) }
+    {
+        text.push_str(self.front)?;
+        text.push_str(self.middle)?;
+        add_digits(text, self.number)?;
+        text.push_str(self.end)?;
+        Ok(())
+    }
+
     /// The whole text.
     pub(crate) fn text(self, alloc: Global) -> Result<Text, OutOfMemory>
         ensures { IfOk result (λ text. text ≡ text_of self.entry) }
     {
         let mut text = String::with_capacity(alloc, self.front.len() + self.end.len())?;
-        text.push_str(self.front)?;
-        text.push_str(self.middle)?;
-        add_digits(&mut text, self.number)?;
-        text.push_str(self.end)?;
+        self.add_to(&mut text)?;
         Ok(Text::from_string(text))
     }
 
@@ -173,7 +182,6 @@ impl<'a> TextParts<'a> {
     }
 
     /// Appends the text.
-    #[tactic(auto, using(list_laws::proofs::Begins::begins_on, crate::proofs::WholeLaws::text_whole))]
     pub(crate) fn append(self, out: &mut Vec<u8>) -> Result<(), OutOfMemory>
         ensures ok { OnOk result (out.new.items ≡ out.old.items ++ text_of self.entry) }
         ensures front { Begins out.old.items out.new.items }
@@ -185,7 +193,6 @@ impl<'a> TextParts<'a> {
     }
 
     /// Appends what is written of the text.
-    #[tactic(auto, using(list_laws::proofs::Begins::begins_on))]
     pub(crate) fn write(self, cut: &mut Cut, out: &mut Vec<u8>) -> Result<(), OutOfMemory>
         ensures ok { OnOk result (Cuts cut.old cut.new (text_of self.entry) out.old.items out.new.items) }
         ensures front { Begins out.old.items out.new.items }

@@ -39,6 +39,13 @@ abbrev pub resolved_graph : Option Term → Option (Option Term)
 resolved_graph None = Some None
 resolved_graph (Some g) = resolved_term g >>= λ t. Some (Some t)
 
+-- a statement of this subject and predicate
+abbrev pub resolved_after : Term → Term → Quad → Option Quad
+resolved_after s p q = do
+  o ← resolved_term q.triple.object
+  g ← resolved_graph q.graph
+  Some (record { triple = record { subject = s; predicate = p; object = o }; graph = g })
+
 unfoldable pub resolved_quad : Quad → Option Quad
 resolved_quad q = do
   s ← resolved_term q.triple.subject

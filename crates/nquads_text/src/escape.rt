@@ -1,5 +1,5 @@
 // The text that stands between two marks, its escapes resolved.
-ghost use Rattle.std.specs.Prelude.{ℕ, ◌≡◌, ◌<◌, ◌≤◌, ◌++◌, ◌∷◌, [], length, not, ◌||◌, ◌==◌, Option, Some, None, MatchOption, IfOk, IfSome, OnOk, IsTrue, false};
+ghost use Rattle.std.specs.Prelude.{◌≡◌, ◌<◌, ◌≤◌, ◌++◌, ◌∷◌, [], length, not, ◌||◌, ◌==◌, Option, Some, None, MatchOption, IfOk, IfSome, OnOk, IsTrue};
 ghost use Rattle.std.specs.Char.{encode_utf8, digit_value};
 ghost use Rattle.rdf_terms.specs.Iri.{is_iri_byte};
 ghost use Rattle.std.specs.Str.{IsUtf8};

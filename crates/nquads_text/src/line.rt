@@ -1,21 +1,20 @@
 // What a line reads as.
-ghost use Rattle.std.specs.Prelude.{ℕ, ◌≡◌, List, IsTrue, Option, Some, None, Result, Ok, Err, MatchOption, IfOk};
+ghost use Rattle.std.specs.Prelude.{◌≡◌, Option, Some, None, Result, Ok, Err};
 ghost use Rattle.std.specs.Option.{option_map};
-ghost use Rattle.std.specs.Str.{is_utf8};
 ghost use Rattle.nquads_text.specs.Raw.{line_form};
-ghost use Rattle.nquads_text.specs.Faults.{fault_of};
 ghost use Rattle.rdf_terms.specs.Valid.{IsValidKind, IsValidTerm, IsValidGraph, IsValidQuad};
-ghost use Rattle.nquads_text.specs.Line.{IsWritten, resolved_quad, quad_of, line_read};
+ghost use Rattle.nquads_text.specs.Faults.{fault_of};
+ghost use Rattle.nquads_text.specs.Line.{IsWritten, or_fault, quad_of, line_read};
 ghost use Rattle.nquads_text.specs.Views.{quad_view, loose_kind, loose_term, loose_quad};
 ghost use Rattle.nquads_text.specs.Lines.{LineGives};
 
-use crate::fault::{TextFault, Why};
+use crate::fault::Why;
 use crate::loose::{LooseKind, LooseQuad, LooseTerm, loose_of};
 use crate::raw::{RawQuad, line_form};
 use crate::scan::as_text;
 use rdf_terms::{Datatype, IriText, Kind, Label, Quad, Tag, Term, Triple};
 use std::alloc::Global;
-use text_base::{OutOfMemory, Text};
+use text_base::OutOfMemory;
 
 fn kind(kind: LooseKind) -> Kind
     requires { IsValidKind (loose_kind kind) }
@@ -84,6 +83,17 @@ impl From<OutOfMemory> for LineFault {
     }
 }
 
+/// The quad of a statement with its escapes resolved, or its first fault.
+fn checked(loose: LooseQuad, longest: usize) -> Result<Quad, LineFault>
+    requires { fault_of longest (loose_quad loose) ≡ None → IsValidQuad (loose_quad loose) }
+    ensures { LineGives result (or_fault (loose_quad loose) (fault_of longest (loose_quad loose))) }
+{
+    match loose.fault(longest) {
+        Some(why) => Err(LineFault::Bad(why)),
+        None => Ok(quad(loose)),
+    }
+}
+
 #[tactic(auto, unfolding(crate::specs::Line::quad_of))]
 fn quad_of(alloc: Global, raw: &RawQuad<'_>, longest: usize) -> Result<Quad, LineFault>
     requires { IsWritten (quad_view raw.now) }
@@ -92,10 +102,7 @@ fn quad_of(alloc: Global, raw: &RawQuad<'_>, longest: usize) -> Result<Quad, Lin
     let found = loose_of(alloc, raw)?;
     match found {
         None => Err(LineFault::Bad(Why::Escape)),
-        Some(loose) => match loose.fault(longest) {
-            Some(why) => Err(LineFault::Bad(why)),
-            None => Ok(quad(loose)),
-        },
+        Some(loose) => checked(loose, longest),
     }
 }
 

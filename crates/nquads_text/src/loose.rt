@@ -1,5 +1,5 @@
 // A statement with its escapes resolved, before it is checked.
-ghost use Rattle.std.specs.Prelude.{ℕ, ◌≡◌, ◌+◌, ◌≤◌, ◌<◌, ◌^◌, length, nat_lt, false, true, not, List, IsTrue, Option, Some, None, Result, Ok, Err, MatchOption, IfOk, map};
+ghost use Rattle.std.specs.Prelude.{◌≡◌, ◌+◌, ◌≤◌, ◌<◌, ◌^◌, length, false, true, Option, Some, None, Result, Ok, IfOk};
 ghost use Rattle.std.specs.Option.{option_map};
 ghost use Rattle.rdf_terms.specs.Iri.{has_scheme};
 ghost use Rattle.rdf_terms.specs.Tag.{lower};
@@ -7,8 +7,8 @@ ghost use Rattle.rdf_terms.specs.Datatype.{is_xsd_string, is_lang_string};
 ghost use Rattle.rdf_terms.specs.Kinds.{typed_kind};
 ghost use Rattle.rdf_terms.specs.Canon.{marks, kind_len, canonical_term};
 ghost use Rattle.nquads_text.specs.Escape.{resolved};
-ghost use Rattle.nquads_text.specs.Faults.{is_relative_kind, is_relative, is_lang_kind, has_lang_string, has_long_label, is_too_long, graph_passes, some_term, fault_of};
-ghost use Rattle.nquads_text.specs.Line.{IsWrittenTag, IsWrittenKind, IsWrittenTerm, IsWrittenGraph, IsWritten, resolved_kind, resolved_literal, resolved_term, resolved_quad, resolved_graph, IsWrittenText};
+ghost use Rattle.nquads_text.specs.Faults.{is_relative_kind, is_relative, is_lang_kind, has_lang_string, has_long_label, is_too_long, some_term, fault_of};
+ghost use Rattle.nquads_text.specs.Line.{IsWrittenTag, IsWrittenKind, IsWrittenTerm, IsWrittenGraph, IsWritten, resolved_kind, resolved_literal, resolved_term, resolved_after, resolved_quad, resolved_graph, IsWrittenText};
 ghost use Rattle.nquads_text.specs.Grammar.{IsFormItem};
 ghost use Rattle.nquads_text.specs.Views.{kind_view, term_view, quad_view, loose_kind, loose_term, loose_quad};
 
@@ -140,18 +140,17 @@ fn graph_of(
     }
 }
 
-/// The statement with its escapes resolved, or nothing where one names what it may not.
-#[tactic(auto, unfolding(crate::specs::Line::resolved_quad))]
-pub fn loose_of(alloc: Global, raw: &RawQuad<'_>) -> Result<Option<LooseQuad>, OutOfMemory>
+/// The statement of a subject and a predicate, and of the rest of a raw one with its escapes resolved.
+fn loose_after(
+    alloc: Global,
+    raw: &RawQuad<'_>,
+    subject: LooseTerm,
+    predicate: LooseTerm,
+) -> Result<Option<LooseQuad>, OutOfMemory>
     requires { IsWritten (quad_view raw.now) }
-    ensures { IfOk result (λ r. option_map loose_quad r ≡ resolved_quad (quad_view raw.now)) }
+    ensures { IfOk result (λ r. option_map loose_quad r
+        ≡ resolved_after (loose_term subject) (loose_term predicate) (quad_view raw.now)) }
 {
-    let Some(subject) = term_of(alloc, raw.subject)? else {
-        return Ok(None);
-    };
-    let Some(predicate) = term_of(alloc, raw.predicate)? else {
-        return Ok(None);
-    };
     let Some(object) = term_of(alloc, raw.object)? else {
         return Ok(None);
     };
@@ -164,6 +163,21 @@ pub fn loose_of(alloc: Global, raw: &RawQuad<'_>) -> Result<Option<LooseQuad>, O
         object,
         graph,
     }))
+}
+
+/// The statement with its escapes resolved, or nothing where one names what it may not.
+#[tactic(auto, unfolding(crate::specs::Line::resolved_quad))]
+pub fn loose_of(alloc: Global, raw: &RawQuad<'_>) -> Result<Option<LooseQuad>, OutOfMemory>
+    requires { IsWritten (quad_view raw.now) }
+    ensures { IfOk result (λ r. option_map loose_quad r ≡ resolved_quad (quad_view raw.now)) }
+{
+    let Some(subject) = term_of(alloc, raw.subject)? else {
+        return Ok(None);
+    };
+    let Some(predicate) = term_of(alloc, raw.predicate)? else {
+        return Ok(None);
+    };
+    loose_after(alloc, raw, subject, predicate)
 }
 
 impl LooseKind {

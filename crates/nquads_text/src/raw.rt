@@ -1,5 +1,5 @@
 // A line's raw form: its parts as written.
-ghost use Rattle.std.specs.Prelude.{ℕ, ◌≡◌, Option, Some, None, MatchOption};
+ghost use Rattle.std.specs.Prelude.{◌≡◌, Option, Some, None, MatchOption};
 ghost use Rattle.std.specs.Option.{option_map};
 ghost use Rattle.nquads_text.specs.Raw.{iri_part, form_part, label_part, tag_part, datatype_part, kind_part, literal_part, node_part, object_part, graph_part, statement_of, line_form};
 ghost use Rattle.nquads_text.specs.Views.{kind_view, term_view, quad_view};

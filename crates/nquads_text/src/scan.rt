@@ -1,7 +1,7 @@
 // How far the parts of a line reach.
-ghost use Rattle.std.specs.Prelude.{ℕ, ◌≡◌, ◌+◌, ◌<◌, ◌≤◌, length, drop, false, true, Option, Some, None, MatchOption, IfSome};
+ghost use Rattle.std.specs.Prelude.{◌≡◌, ◌+◌, ◌<◌, ◌≤◌, length, drop, false, true, Option, Some, None, MatchOption, IfSome};
 ghost use Rattle.std.specs.Str.{is_utf8};
-ghost use Rattle.rdf_terms.specs.Iri.{is_iri_byte, is_letter, is_digit};
+ghost use Rattle.rdf_terms.specs.Iri.{is_iri_byte};
 ghost use Rattle.rdf_terms.specs.Label.{is_label};
 ghost use Rattle.rdf_terms.specs.Tag.{is_tag};
 ghost use Rattle.nquads_text.specs.Grammar.{is_blank, is_hex, is_form_byte, is_short_escape};

@@ -1,5 +1,5 @@
 // A whole text.
-ghost use Rattle.std.specs.Prelude.{ℕ, ◌≡◌, ◌<◌, ◌∷◌, length, All, nat_eq, MatchOption, Option, Some, None, Result, Ok, Err, List, ◌≤◌, ◌+◌, ◌++◌, ◌^◌, ◌⊎◌, IfOk, IfSome, OnOk};
+ghost use Rattle.std.specs.Prelude.{ℕ, ◌≡◌, ◌<◌, [], ◌∷◌, ◌++◌, length, All, Option, Some, None, Result, Ok, Err, List, ◌≤◌, ◌+◌, ◌^◌, IfOk, IfSome, OnOk};
 ghost use Rattle.std.specs.List.{AllByRecursion};
 ghost use Rattle.rdf_terms.specs.Triples.{IsRdfQuad};
 ghost use Rattle.nquads_text.specs.Quads.{IsReadable};
@@ -14,6 +14,7 @@ use crate::line::{LineFault, line_read};
 use memchr::memchr2;
 use rdf_terms::Quad;
 use std::alloc::Global;
+use text_base::OutOfMemory;
 
 /// The place of the first line feed or carriage return (N-Quads, EOL), LF and CR below.
 pub fn line_end(bytes: &[u8]) -> Option<usize>
@@ -61,6 +62,13 @@ pub fn next_line(bytes: &[u8]) -> (&[u8], &[u8])
     }
 }
 
+fn add_quad(quads: &mut Vec<Quad>, quad: Quad) -> Result<(), OutOfMemory>
+    ensures { OnOk result (quads.new.items ≡ quads.old.items ++ quad ∷ []) }
+{
+    quads.push(quad)?;
+    Ok(())
+}
+
 /// Adds the quad of a line, if it has one.
 pub fn read_line(
     alloc: Global,
@@ -72,10 +80,10 @@ pub fn read_line(
 {
     match line_read(alloc, line, longest)? {
         None => Ok(()),
-        Some(quad) => match quads.push(quad) {
-            Err(_) => Err(LineFault::OutOfMemory),
-            Ok(()) => Ok(()),
-        },
+        Some(quad) => {
+            add_quad(quads, quad)?;
+            Ok(())
+        }
     }
 }
 

@@ -1,5 +1,5 @@
 // Canonical text (N-Triples, "A Canonical form of N-Triples").
-ghost use Rattle.std.specs.Prelude.{ℕ, ◌≡◌, ◌<◌, ◌∷◌, ◌++◌, [], List, length, take, Option, Some, None, IfOk, IfSome, OnOk, OnErr};
+ghost use Rattle.std.specs.Prelude.{◌≡◌, ◌<◌, ◌∷◌, ◌++◌, [], length, take, Option, Some, None, IfOk, IfSome, OnOk, OnErr};
 ghost use Rattle.rdf_terms.specs.Canon.{is_marked, canonical_byte, canonical_form, canonical_kind, canonical_term, canonical_graph, canonical_line};
 ghost use Rattle.nquads_text.specs.Scan.{first_place};
 ghost use Rattle.list_laws.specs.Begins.{Begins};

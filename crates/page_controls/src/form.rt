@@ -1,5 +1,5 @@
 // The form of a page's server.
-ghost use Rattle.std.specs.Prelude.{ℕ, ◌≡◌, ◌≢◌, ◌↔◌, ◌&&◌, not, true, false, List, [], MatchOption, IfOk, IsTrue, is_some};
+ghost use Rattle.std.specs.Prelude.{ℕ, ◌≡◌, ◌≢◌, ◌↔◌, ◌&&◌, not, true, false, List, [], Some, MatchOption, IfOk, IsTrue, is_some};
 ghost use Rattle.std.specs.List.{Contains, filter_map, list_any};
 ghost use Rattle.std.specs.Str.{bytes_eq};
 ghost use Rattle.std.specs.List.Sorted.{IsStrictlySortedBy};
@@ -7,8 +7,9 @@ ghost use Rattle.std.specs.Option.{option_copied};
 ghost use Rattle.rdf_terms.specs.declared.term.Term.{Term};
 ghost use Rattle.rdf_terms.specs.Order.{term_order};
 ghost use Rattle.rdf_terms.specs.Same.{term_eq};
+ghost use Rattle.template_fill.specs.Templates.{read_template};
 ghost use Rattle.page_controls.specs.Vocabulary.{search_form};
-ghost use Rattle.page_controls.specs.Controls.{FormTexts, IsLiteral, IsTemplateOf, MapsTo, IsOnly, IsForm, HasNoForm, IsLeastForm, IsFormOf, HasBadTemplate};
+ghost use Rattle.page_controls.specs.Controls.{FormTexts, IsLiteral, IsTemplateOf, MapsTo, IsOnly, IsForm, HasNoForm, IsLeastForm, names_all, IsFormOf, HasBadTemplate};
 ghost use Rattle.page_controls.specs.Outcomes.{Answers};
 ghost use Rattle.page_controls.specs.Parts.{objects_in, borrowed_terms, borrowed_triples, form_of};
 ghost use Rattle.page_controls.specs.Variables.{texts_in, named_all, AreVariables};
@@ -381,6 +382,20 @@ fn first_form<'a>(index: &FormIndex<'_, 'a>, nodes: &[&Term]) -> Option<FormPart
     None
 }
 
+/// The texts of the least form that is found by the index, if there is one.
+fn least_found<'a>(
+    alloc: Global,
+    index: &FormIndex<'_, 'a>,
+) -> Result<Option<FormParts<'a>>, OutOfMemory>
+    requires { IsIndex index.now }
+    ensures { IfOk result (λ o. MatchOption o
+        (HasNoForm index.entry.now.controls.now.quads index.entry.now.controls.now.topic)
+        (λ parts. IsLeastForm index.entry.now.controls.now.quads index.entry.now.controls.now.topic (texts_of parts))) }
+{
+    let nodes = sorted_searched(alloc, index.controls)?;
+    Ok(first_form(index, nodes.as_slice()))
+}
+
 /// The texts of the least form, if there is one.
 fn least_form<'a>(
     alloc: Global,
@@ -391,9 +406,53 @@ fn least_form<'a>(
 {
     let words = FormWords::new(alloc)?;
     let variables = all_variables(alloc, controls)?;
-    let nodes = sorted_searched(alloc, controls)?;
     let index = form_index(controls, &words, variables.as_slice());
-    Ok(first_form(&index, nodes.as_slice()))
+    least_found(alloc, &index)
+}
+
+/// The template of these texts.
+fn read_template_text(alloc: Global, parts: &FormParts) -> Result<Template, PageFault>
+    ensures { Answers (λ template. read_template (texts_of parts.now).template ≡ Some template)
+        (λ fault. (fault ≡ PageFault.BadTemplate) × HasBadTemplate (texts_of parts.now)) result }
+{
+    match Template::read(alloc, parts.template) {
+        Ok(template) => Ok(template),
+        Err(TemplateFault::BadTemplate) => Err(PageFault::BadTemplate),
+        Err(TemplateFault::OutOfMemory) => Err(PageFault::OutOfMemory),
+    }
+}
+
+/// Whether a template names the three variables.
+fn has_names(template: &Template, parts: &FormParts) -> bool
+    ensures { result ≡ names_all template.now (texts_of parts.now) }
+{
+    template.names(parts.subject)
+        && (template.names(parts.predicate) && template.names(parts.object))
+}
+
+/// Copies of two names.
+fn copies(alloc: Global, subject: &str, predicate: &str) -> Result<(Text, Text), OutOfMemory>
+    ensures { IfOk result (λ names. names ≡ (subject.now, predicate.now)) }
+{
+    let subject = Text::copy(alloc, subject)?;
+    let predicate = Text::copy(alloc, predicate)?;
+    Ok((subject, predicate))
+}
+
+/// The form of a template that names the three variables.
+fn with_names(alloc: Global, template: Template, parts: &FormParts) -> Result<Form, OutOfMemory>
+    requires read { read_template (texts_of parts.now).template ≡ Some template }
+    requires names { names_all template (texts_of parts.now) ≡ true }
+    ensures { IfOk result (IsFormOf (texts_of parts.now)) }
+{
+    let (subject, predicate) = copies(alloc, parts.subject, parts.predicate)?;
+    let object = Text::copy(alloc, parts.object)?;
+    Ok(Form {
+        template,
+        subject,
+        predicate,
+        object,
+    })
 }
 
 /// The form with these texts.
@@ -401,22 +460,11 @@ fn read_form(alloc: Global, parts: &FormParts) -> Result<Form, PageFault>
     ensures { Answers (IsFormOf (texts_of parts.now))
         (λ fault. (fault ≡ PageFault.BadTemplate) × HasBadTemplate (texts_of parts.now)) result }
 {
-    let template = match Template::read(alloc, parts.template) {
-        Ok(template) => template,
-        Err(TemplateFault::BadTemplate) => return Err(PageFault::BadTemplate),
-        Err(TemplateFault::OutOfMemory) => return Err(PageFault::OutOfMemory),
-    };
-    if !(template.names(parts.subject)
-        && (template.names(parts.predicate) && template.names(parts.object)))
-    {
+    let template = read_template_text(alloc, parts)?;
+    if !has_names(&template, parts) {
         return Err(PageFault::BadTemplate);
     }
-    Ok(Form {
-        template,
-        subject: Text::copy(alloc, parts.subject)?,
-        predicate: Text::copy(alloc, parts.predicate)?,
-        object: Text::copy(alloc, parts.object)?,
-    })
+    Ok(with_names(alloc, template, parts)?)
 }
 
 /// The least form of the page.

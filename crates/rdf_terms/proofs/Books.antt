@@ -1,5 +1,5 @@
 -- A book stays an index of its terms.
-use Rattle.std.proofs.Common.{ℕ, zero, suc, ◌≡◌, ◌⊎◌, inl, inr, Bool, true, false, cond, List, [], ◌∷◌, ◌++◌, length, Option, Some, None, slice_get, ◌-◌, take, arith, length-append, refl, ap, sym, subst, ◌∙◌}
+use Rattle.std.proofs.Common.{ℕ, zero, suc, ◌≡◌, ◌⊎◌, inl, inr, Bool, true, false, cond, List, [], ◌∷◌, ◌++◌, length, Option, Some, None, slice_get, take, refl, ap, sym, subst, ◌∙◌}
 use Rattle.std.specs.BTreeMap.{BTreeMap, get, is_at, Updates, IsUnchanged}
 use Rattle.std.proofs.Math.Seq.{take-append_seam}
 use Rattle.std.specs.Map.{lookup}
@@ -83,12 +83,9 @@ index_added now xs ys t x k m n id same index absent e f g h updates =
 pub index_kept : (xs ys : List Term) (m : BTreeMap Term ℕ) → IsIndex xs m → ys ≡ xs → IsIndex ys m
 index_kept xs ys m index e = subst (λ (l : List Term). IsIndex l m) (sym e) index
 
-front : (xs : List Term) (x : Term) → take (length (xs ++ x ∷ []) - 1) (xs ++ x ∷ []) ≡ xs
-front xs x = let e : length (xs ++ x ∷ []) - 1 ≡ length xs = grind (arith, length-append) in ap (λ (k : ℕ). take k (xs ++ x ∷ [])) e ∙ take-append_seam xs (x ∷ [])
-
--- the last term taken away again, and the entries as before
-pub index_undone : (xs ys zs : List Term) (x : Term) (m n : BTreeMap Term ℕ) (len : ℕ) → IsIndex xs m → ys ≡ xs ++ x ∷ [] → len ≡ length ys → zs ≡ take (len - 1) ys → IsUnchanged m n → IsIndex zs n
-index_undone xs ys zs x m n len index e f g same =
-    let whole : zs ≡ xs = g ∙ ap (λ (k : ℕ). take (k - 1) ys) f ∙ ap (λ (l : List Term). take (length l - 1) l) e ∙ front xs x in
+-- what came last taken away again, and the entries as before
+pub index_undone : (xs ys zs : List Term) (x : Term) (m n : BTreeMap Term ℕ) (count : ℕ) → IsIndex xs m → ys ≡ xs ++ x ∷ [] → count ≡ length xs → zs ≡ take count ys → IsUnchanged m n → IsIndex zs n
+index_undone xs ys zs x m n count index e f g same =
+    let whole : zs ≡ xs = g ∙ ap (λ (l : List Term). take count l) e ∙ ap (λ (k : ℕ). take k (xs ++ x ∷ [])) f ∙ take-append_seam xs (x ∷ []) in
     let kept : IsIndex xs n = λ t. subst (λ (found : Option ℕ). Finds xs t found) (ap (λ (es : List (Term × ℕ)). lookup (is_at (term_order t)) es) (sym same)) (index t) in
     subst (λ (l : List Term). IsIndex l n) (sym whole) kept

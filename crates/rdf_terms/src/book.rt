@@ -1,6 +1,7 @@
 // A term dictionary: distinct terms, each with a number.
-ghost use Rattle.std.specs.Prelude.{ℕ, ◌≡◌, ◌<◌, Some, None, List, [], length, IfOk, OnErr, MatchOption, slice_get};
-ghost use Rattle.std.specs.List.{Contains};
+ghost use Rattle.std.specs.Prelude.{◌≡◌, ◌<◌, Some, None, List, [], ◌∷◌, ◌++◌, length, IfOk, OnErr, slice_get};
+ghost use Rattle.std.specs.BTreeMap.{Updates, IsUnchanged};
+ghost use Rattle.rdf_terms.specs.Order.{term_order};
 ghost use Rattle.rdf_terms.specs.Book.{Interns, Finds};
 
 use crate::Term;
@@ -86,16 +87,40 @@ impl TermBook {
         ensures added { IfOk result (λ id. Interns self.old term.now self.new id) }
         ensures unchanged { OnErr result (self.new ≡ self.old) }
     {
-        let key = term.copy(self.alloc)?;
-        let copy = term.copy(self.alloc)?;
-        let id = self.terms.len() as u32;
-        self.terms.push(copy)?;
-        match self.ids.insert(key, id) {
-            Ok(_) => Ok(id),
-            Err(_) => {
-                self.terms.pop();
-                Err(OutOfMemory)
+        let count = self.terms.len();
+        push_copy(self.alloc, &mut self.terms, term)?;
+        let id = count as u32;
+        match insert_copy(self.alloc, &mut self.ids, term, id) {
+            Ok(()) => Ok(id),
+            Err(fault) => {
+                self.terms.truncate(count);
+                Err(fault)
             }
         }
     }
+}
+
+/// Puts a copy of a term at the end of the list. After `OutOfMemory` the list is as before.
+fn push_copy(alloc: Global, terms: &mut Vec<Term>, term: &Term) -> Result<(), OutOfMemory>
+    ensures pushed { IfOk result (λ _. terms.new.items ≡ terms.old.items ++ term.now ∷ []) }
+    ensures unchanged { OnErr result (terms.new.items ≡ terms.old.items) }
+{
+    let copy = term.copy(alloc)?;
+    terms.push(copy)?;
+    Ok(())
+}
+
+/// Enters a copy of a term with its id. After `OutOfMemory` the entries are as before.
+fn insert_copy(
+    alloc: Global,
+    ids: &mut BTreeMap<Term, u32>,
+    term: &Term,
+    id: u32,
+) -> Result<(), OutOfMemory>
+    ensures entered { IfOk result (λ _. Updates term_order ids.old ids.new term.now (Some id)) }
+    ensures unchanged { OnErr result (IsUnchanged ids.old ids.new) }
+{
+    let key = term.copy(alloc)?;
+    ids.insert(key, id)?;
+    Ok(())
 }

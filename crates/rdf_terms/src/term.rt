@@ -1,5 +1,5 @@
 // Terms, triples and quads.
-ghost use Rattle.std.specs.Prelude.{ℕ, ◌≡◌, ◌≢◌, ◌↔◌, false, true, List, IsTrue, IfOk, IfErr, OnOk, IsErrOf, MatchResult};
+ghost use Rattle.std.specs.Prelude.{◌≡◌, ◌↔◌, false, IsTrue, IfOk, IfErr, OnOk, IsErrOf};
 ghost use Rattle.rdf_terms.specs.Iri.{is_iri};
 ghost use Rattle.rdf_terms.specs.Label.{is_label};
 ghost use Rattle.rdf_terms.specs.Tag.{is_tag, lower};
@@ -257,10 +257,7 @@ impl Term {
     pub fn plain(alloc: Global, form: &str) -> Result<Term, OutOfMemory>
         ensures { IfOk result (λ t. t ≡ Term.Literal form.now Kind.Plain) }
     {
-        Ok(Term::Literal {
-            form: Text::copy(alloc, form)?,
-            kind: Kind::Plain,
-        })
+        Term::literal(alloc, form, Kind::Plain)
     }
 
     /// The literal with this lexical form and datatype; with xsd:string that is the plain literal (RDF 1.1 Concepts 3.3). `Iri`
@@ -283,10 +280,7 @@ impl Term {
             return Err(TermFault::Iri);
         }
         let kind = Kind::of_datatype(alloc, datatype)?;
-        Ok(Term::Literal {
-            form: Text::copy(alloc, form)?,
-            kind,
-        })
+        Ok(Term::literal(alloc, form, kind)?)
     }
 
     /// The literal with this lexical form and language tag, which is kept in lower case. `Tag` exactly where the text is no
@@ -303,10 +297,15 @@ impl Term {
             return Err(TermFault::Tag);
         }
         let kind = Kind::Tagged(Tag::from_text(lowered(alloc, tag)?));
-        Ok(Term::Literal {
-            form: Text::copy(alloc, form)?,
-            kind,
-        })
+        Ok(Term::literal(alloc, form, kind)?)
+    }
+
+    /// The literal with this lexical form and kind.
+    fn literal(alloc: Global, form: &str, kind: Kind) -> Result<Term, OutOfMemory>
+        ensures { IfOk result (λ t. t ≡ Term.Literal form.now kind) }
+    {
+        let form = Text::copy(alloc, form)?;
+        Ok(Term::Literal { form, kind })
     }
 
     /// The same term again. Its one error is out of memory.

@@ -1,5 +1,4 @@
 // What every term keeps, told by calls that do nothing.
-ghost use Rattle.std.specs.Prelude.{List};
 ghost use Rattle.rdf_terms.specs.Valid.{IsValidKind, IsValidTerm, IsValidTriple, IsValidGraph, IsValidQuad};
 ghost use Rattle.rdf_terms.specs.Kept.{IsValidSlot, AreValid};
 

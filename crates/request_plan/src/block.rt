@@ -1,14 +1,15 @@
 // Blocks of rows: what they ask for, and how rows are cut into them.
-ghost use Rattle.std.specs.Prelude.{ℕ, ◌≡◌, ◌<◌, ◌≤◌, ◌++◌, ◌∷◌, List, [], length, map, take, drop, IfOk, OnOk, MatchOption, true};
+ghost use Rattle.std.specs.Prelude.{ℕ, ◌≡◌, ◌<◌, ◌≤◌, ◌+◌, ◌-◌, ◌^◌, ◌++◌, ◌∷◌, List, [], length, map, min, take, drop, IfOk, OnOk, MatchOption, true};
 ghost use Rattle.std.specs.List.{All, AllByRecursion};
 ghost use Rattle.rdf_terms.specs.Askable.{askable};
 ghost use Rattle.rdf_terms.specs.declared.limits.TheConstants.{MOST_ROWS};
 ghost use Rattle.template_fill.specs.declared.form.Form.{Form};
+ghost use Rattle.template_fill.specs.Forms.{HasNoBlank};
 ghost use Rattle.bgp_core.specs.Solutions.{Places};
 ghost use Rattle.bgp_core.specs.Instances.{instance, bound_places};
 ghost use Rattle.request_plan.specs.Blocks.{block_length, blocks, cut_by, distinct_slots, form_cut, longest_front, selection_for};
 ghost use Rattle.request_plan.specs.Plans.{all_askable};
-ghost use Rattle.request_plan.specs.Targets.{HasAddress, IsTarget, block_lengths, with_distinct};
+ghost use Rattle.request_plan.specs.Targets.{HasAddress, IsTarget, block_lengths, rows_length, with_distinct};
 
 use crate::FormList;
 use crate::pattern_list::PatternList;
@@ -89,6 +90,17 @@ impl Model for RowBlock {
     ghost view = { λ b. b.first ∷ b.others.items };
 }
 
+/// The same rows; their terms are shared.
+fn copy_rows(alloc: Global, rows: &[Row]) -> Result<Vec<Row>, OutOfMemory>
+    ensures { IfOk result (λ v. v.items ≡ rows.now) }
+{
+    let mut copy = Vec::with_capacity(alloc, rows.len())?;
+    for row in rows {
+        copy.push(row.copy(alloc)?)?;
+    }
+    Ok(copy)
+}
+
 impl RowBlock {
     /// One row alone. It takes no memory.
     pub(crate) fn one(alloc: Global, row: Row) -> RowBlock
@@ -126,14 +138,9 @@ impl RowBlock {
     pub fn copy(&self, alloc: Global) -> Result<RowBlock, OutOfMemory>
         ensures { IfOk result (λ b. b ≡ self.now) }
     {
-        let mut others = Vec::with_capacity(alloc, self.others.len())?;
-        for row in &self.others {
-            others.push(row.copy(alloc)?)?;
-        }
-        Ok(RowBlock {
-            first: self.first.copy(alloc)?,
-            others,
-        })
+        let first = self.first.copy(alloc)?;
+        let others = copy_rows(alloc, self.others.as_slice())?;
+        Ok(RowBlock { first, others })
     }
 }
 
@@ -229,6 +236,20 @@ impl Target {
         })
     }
 
+    /// Takes what a row binds that no row before it does.
+    fn push(&mut self, alloc: Global, places: Slots) -> Result<(), OutOfMemory>
+        requires { HasNoBlank places }
+        ensures places { OnOk result
+            (self.new.places.items ≡ self.old.places.items ++ places ∷ []) }
+        ensures length { OnOk result
+            (self.new.length ≡ min (self.old.length + rows_length (places ∷ [])) (2 ^ 64 - 1)) }
+    {
+        let more = row_length(alloc, &places)?;
+        self.places.push(places)?;
+        self.length = self.length.saturating_add(more);
+        Ok(())
+    }
+
     /// Takes what one more row binds.
     fn add(&mut self, alloc: Global, pattern: &Pattern, row: &Row) -> Result<(), OutOfMemory>
         requires { askable (instance pattern.now row.now) ≡ true }
@@ -239,9 +260,7 @@ impl Target {
         if self.places.contains(&places) {
             return Ok(());
         }
-        let more = row_length(alloc, &places)?;
-        self.places.push(places)?;
-        self.length = self.length.saturating_add(more);
+        self.push(alloc, places)?;
         Ok(())
     }
 }
@@ -383,6 +402,43 @@ fn take_block(
     Ok(block)
 }
 
+/// Moves rows from the front into a block, which is added.
+fn push_block(
+    alloc: Global,
+    rows: &mut VecDeque<Row>,
+    count: usize,
+    into: &mut Vec<RowBlock>,
+) -> Result<(), OutOfMemory>
+    requires some { 1 ≤ count }
+    requires within { count ≤ length rows.old.items }
+    ensures block { OnOk result
+        (into.new.items ≡ into.old.items ++ take count rows.old.items ∷ []) }
+    ensures left { OnOk result (rows.new.items ≡ drop count rows.old.items) }
+{
+    into.push(take_block(alloc, rows, count)?)?;
+    Ok(())
+}
+
+/// The blocks of the lengths that are measured.
+fn measured_blocks(
+    alloc: Global,
+    cut: &Cut,
+    rest: &PatternList,
+    rows: Vec<Row>,
+) -> Result<Vec<RowBlock>, OutOfMemory>
+    requires { All (λ row. all_askable row rest.now ≡ true) rows.items }
+    ensures { IfOk result (λ v. v.items ≡ blocks (cut_by cut.now) rest.now rows.items) }
+{
+    let most = cut.block.get();
+    let lengths = lengths(alloc, cut.forms.first(), most, rest, rows.as_slice())?;
+    let mut left = VecDeque::from(rows);
+    let mut blocks = Vec::with_capacity(alloc, lengths.len())?;
+    for length in &lengths {
+        push_block(alloc, &mut left, *length, &mut blocks)?;
+    }
+    Ok(blocks)
+}
+
 /// Cuts rows from the front into blocks, each of which is the longest of at most so many rows whose
 /// targets have at most `LONGEST_TARGET` bytes (65536), and has at least one row. Row by row nothing
 /// is measured. Condition: each of the patterns can be asked for under each row. The only error is
@@ -400,11 +456,5 @@ pub fn cut_rows(
     if most == 1 {
         return single_rows(alloc, rows);
     }
-    let lengths = lengths(alloc, cut.forms.first(), most, rest, rows.as_slice())?;
-    let mut left = VecDeque::from(rows);
-    let mut blocks = Vec::with_capacity(alloc, lengths.len())?;
-    for length in &lengths {
-        blocks.push(take_block(alloc, &mut left, *length)?)?;
-    }
-    Ok(blocks)
+    measured_blocks(alloc, cut, rest, rows)
 }

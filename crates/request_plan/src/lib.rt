@@ -8,9 +8,7 @@
 //!
 //! ```rust
 //! let kept = askable_rows(alloc, others, rows)?;
-//! for block in cut_rows(alloc, cut, others, kept)? {
-//!     nodes.push(Opening::new(block, others.clone()?))?;
-//! }
+//! cut_rows(alloc, cut, others, kept)
 //! ```
 #![tactic(auto)]
 

@@ -35,6 +35,14 @@ fn share(list: &mut Vec<Rc<Pattern>>, pattern: &Rc<Pattern>) -> Result<(), OutOf
     Ok(())
 }
 
+/// A copy of a pattern, for lists to share.
+fn shared_copy(alloc: Global, pattern: &Pattern) -> Result<Rc<Pattern>, OutOfMemory>
+    ensures { IfOk result (λ p. p.value ≡ pattern.now) }
+{
+    let copy = pattern.copy(alloc)?;
+    Ok(Rc::new(alloc, copy)?)
+}
+
 fn share_all(alloc: Global, patterns: &[Rc<Pattern>]) -> Result<Vec<Rc<Pattern>>, OutOfMemory>
     ensures patterns { IfOk result (λ v. map rc_value v.items ≡ map rc_value patterns.now) }
     ensures count { IfOk result (λ v. length v.items ≡ length patterns.now) }
@@ -53,7 +61,7 @@ impl PatternList {
     {
         let mut list = Vec::with_capacity(alloc, patterns.len())?;
         for pattern in patterns {
-            list.push(Rc::new(alloc, pattern.copy(alloc)?)?)?;
+            list.push(shared_copy(alloc, pattern)?)?;
         }
         Ok(PatternList { patterns: list })
     }

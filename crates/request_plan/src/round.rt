@@ -8,7 +8,7 @@ ghost use Rattle.rdf_terms.specs.Fragments.{put};
 ghost use Rattle.rdf_terms.specs.Order.{triple_order};
 ghost use Rattle.rdf_terms.specs.Same.{triple_eq};
 ghost use Rattle.request_plan.specs.Blocks.{is_askable, form_cut, forms_cut};
-ghost use Rattle.request_plan.specs.Rounds.{IsFirstRound, ShareForms, round_of_one, taken_of};
+ghost use Rattle.request_plan.specs.Rounds.{AreFirst, IsFirstRound, ShareForms, round_of_one, taken_of};
 
 use rdf_terms::{Slots, Triple};
 use std::alloc::Global;
@@ -33,6 +33,25 @@ impl Model for FormList {
     ghost Value = { List Form };
 
     ghost view = { λ l. l.first ∷ l.others.items };
+}
+
+/// The addresses of the first pages of a selection, one under each form.
+fn first_addresses(
+    alloc: Global,
+    forms: &[Form],
+    slots: &Slots,
+    rows: &[Slots],
+) -> Result<Vec<WebAddress>, OutOfMemory>
+    requires { is_askable (record { slots = slots.now; rows = rows.now }) ≡ true }
+    ensures first { IfOk result (λ v.
+        AreFirst forms.now (record { slots = slots.now; rows = rows.now }) v.items) }
+    ensures shared { IfOk result (λ v. ShareForms forms.now v.items) }
+{
+    let mut addresses = Vec::new(alloc);
+    for form in forms {
+        addresses.push(form.selection_address(alloc, slots, rows)?)?;
+    }
+    Ok(addresses)
 }
 
 impl FormList {
@@ -93,10 +112,7 @@ impl FormList {
         ensures shared { IfOk result (λ round. ShareForms self.now round.addresses) }
     {
         let first = self.first.selection_address(alloc, slots, rows)?;
-        let mut others = Vec::new(alloc);
-        for form in &self.others {
-            others.push(form.selection_address(alloc, slots, rows)?)?;
-        }
+        let others = first_addresses(alloc, self.others.as_slice(), slots, rows)?;
         Ok(Round {
             first,
             others,
@@ -175,6 +191,40 @@ impl Model for Round {
     } };
 }
 
+/// Addresses, copied.
+fn copy_others(alloc: Global, others: &[WebAddress]) -> Result<Vec<WebAddress>, OutOfMemory>
+    ensures { IfOk result (λ v. v.items ≡ others.now) }
+{
+    let mut copy = Vec::with_capacity(alloc, others.len())?;
+    for other in others {
+        copy.push(other.copy(alloc)?)?;
+    }
+    Ok(copy)
+}
+
+/// The address of the first server and those of the others, copied.
+fn copy_addresses(
+    alloc: Global,
+    first: &WebAddress,
+    others: &[WebAddress],
+) -> Result<(WebAddress, Vec<WebAddress>), OutOfMemory>
+    ensures first { IfOk result (λ a. a.0 ≡ first.now) }
+    ensures others { IfOk result (λ a. a.1.items ≡ others.now) }
+{
+    let first = first.copy(alloc)?;
+    Ok((first, copy_others(alloc, others)?))
+}
+
+/// The triples that came before, which both rounds share then.
+fn share_taken(taken: &Option<Rc<TripleSet>>) -> Result<Option<Rc<TripleSet>>, OutOfMemory>
+    ensures { IfOk result (λ t. option_map rc_value t ≡ option_map rc_value taken.now) }
+{
+    match taken {
+        Some(taken) => Ok(Some(taken.clone()?)),
+        None => Ok(None),
+    }
+}
+
 impl Round {
     /// What one server alone is asked for. It takes no memory.
     pub fn one(alloc: Global, address: WebAddress) -> Round
@@ -211,16 +261,10 @@ impl Round {
     pub fn copy(&self, alloc: Global) -> Result<Round, OutOfMemory>
         ensures { IfOk result (λ round. round ≡ self.now) }
     {
-        let mut others = Vec::with_capacity(alloc, self.others.len())?;
-        for other in &self.others {
-            others.push(other.copy(alloc)?)?;
-        }
-        let taken = match &self.taken {
-            Some(taken) => Some(taken.clone()?),
-            None => None,
-        };
+        let (first, others) = copy_addresses(alloc, &self.first, self.others.as_slice())?;
+        let taken = share_taken(&self.taken)?;
         Ok(Round {
-            first: self.first.copy(alloc)?,
+            first,
             others,
             taken,
         })

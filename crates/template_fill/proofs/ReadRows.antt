@@ -12,8 +12,10 @@ use Rattle.percent_encoding.specs.AsciiSet.{should_percent_encode}
 use Rattle.percent_encoding.proofs.PercentLemmas.{IsByte, All-percent_encode, round_trip}
 use Rattle.rdf_terms.specs.declared.slots.Slot.{Slot}
 use Rattle.rdf_terms.specs.declared.slots.Slot.TheVariants.{Any, Fixed}
+use Rattle.rdf_terms.specs.declared.slots.Slots.{Slots}
 use Rattle.rdf_terms.specs.Kept.{IsKeptSlot}
 use Rattle.template_fill.specs.Explicit.{explicit_form, slot_of}
+use Rattle.template_fill.specs.ReadAddress.{◌>>=◌}
 use Rattle.template_fill.specs.Values.{encoded_value}
 use Rattle.template_fill.specs.declared.value.TheConstants.{VALUE}
 use Rattle.template_fill.proofs.Quotes.{reads_back, forms_are_text}
@@ -21,7 +23,7 @@ use Rattle.template_fill.proofs.Values.{same_text}
 use Rattle.template_fill.proofs.Written.{utf8_bytes}
 use Rattle.template_fill.proofs.Sections.{sections-cut}
 use Rattle.template_fill.specs.Templates.{before, after, sections_after}
-use Rattle.template_fill.specs.Rows.{row_place, row_text, accepted, slot_in_row, three_of, places_between, row_of, ReadsRows}
+use Rattle.template_fill.specs.Rows.{row_place, row_text, accepted, slot_in_row, slots_in_row, three_of, places_between, row_of, ReadsRows}
 
 no_comma : (b : ℕ) → b ≢ 44 → (b == 44) ≡ false
 no_comma b h = grind (arith, nat_tests)
@@ -102,24 +104,43 @@ pub some_slot : (text decoded form : List ℕ) (slot : Slot) → decoded ≡ per
 some_slot text decoded form slot same is utf8 given =
     sym (read-text text form (sym same ∙ sym is) (is_utf8-from_IsUtf8 form (subst IsUtf8 (sym is) utf8)) ∙ ap accepted given)
 
+-- ---- the first two places
+
+pub no_first : (s p : List ℕ) (subject : Option Slot) → subject ≡ slot_in_row s → subject ≡ None → None ≡ slots_in_row s p
+no_first s p subject is none = rw (← is, none) refl
+
+pub no_second : (s p : List ℕ) (subject predicate : Option Slot) (one : Slot) → subject ≡ slot_in_row s → subject ≡ Some one → predicate ≡ slot_in_row p → predicate ≡ None → None ≡ slots_in_row s p
+no_second s p subject predicate one is some own none = rw (← is, some, ← own, none) refl
+
+pub both : (s p : List ℕ) (subject predicate : Option Slot) (one two : Slot) → subject ≡ slot_in_row s → subject ≡ Some one → predicate ≡ slot_in_row p → predicate ≡ Some two → Some (one, two) ≡ slots_in_row s p
+both s p subject predicate one two is some own given = rw (← is, some, ← own, given) refl
+
 -- ---- rows that are read
 
 pub no_places : (text bytes : List ℕ) → bytes ≡ text → places_between bytes ≡ None → None ≡ row_of text
 unfolding row_of
 no_places text bytes same none = rw (← same, none) refl
 
-pub no_subject : (text bytes s p o : List ℕ) (subject : Option Slot) → bytes ≡ text → places_between bytes ≡ Some (s, p, o) → subject ≡ slot_in_row s → subject ≡ None → None ≡ row_of text
-unfolding row_of
-no_subject text bytes s p o subject same parts is none = rw (← same, parts, ← is, none) refl
+abbrev with_object : List ℕ → Slot × Slot → Option Slots
+with_object o pair = slot_in_row o >>= (λ c. Some (record { subject = pair.0; predicate = pair.1; object = c }))
 
-pub no_predicate : (text bytes s p o : List ℕ) (subject predicate : Option Slot) (one : Slot) → bytes ≡ text → places_between bytes ≡ Some (s, p, o) → subject ≡ slot_in_row s → subject ≡ Some one → predicate ≡ slot_in_row p → predicate ≡ None → None ≡ row_of text
-unfolding row_of
-no_predicate text bytes s p o subject predicate one same parts is some own none = rw (← same, parts, ← is, some, ← own, none) refl
+abbrev with_object_found : Slot → Slot → Option Slot → Option Slots
+with_object_found one two object = object >>= (λ c. Some (record { subject = one; predicate = two; object = c }))
 
-pub no_object : (text bytes s p o : List ℕ) (subject predicate object : Option Slot) (one two : Slot) → bytes ≡ text → places_between bytes ≡ Some (s, p, o) → subject ≡ slot_in_row s → subject ≡ Some one → predicate ≡ slot_in_row p → predicate ≡ Some two → object ≡ slot_in_row o → object ≡ None → None ≡ row_of text
-unfolding row_of
-no_object text bytes s p o subject predicate object one two same parts is some own given last none = rw (← same, parts, ← is, some, ← own, given, ← last, none) refl
+joined : (a b : Option Slot) (f : Slot × Slot → Option Slots) → ((a >>= (λ x. b >>= (λ y. Some (x, y)))) >>= f) ≡ (a >>= (λ x. b >>= (λ y. f (x, y))))
+joined None b f = refl
+joined (Some x) None f = refl
+joined (Some x) (Some y) f = refl
 
-pub some_row : (text bytes s p o : List ℕ) (subject predicate object : Option Slot) (one two three : Slot) → bytes ≡ text → places_between bytes ≡ Some (s, p, o) → subject ≡ slot_in_row s → subject ≡ Some one → predicate ≡ slot_in_row p → predicate ≡ Some two → object ≡ slot_in_row o → object ≡ Some three → Some (record { subject = one; predicate = two; object = three }) ≡ row_of text
+by_pair : (text bytes s p o : List ℕ) (pair : Option (Slot × Slot)) → bytes ≡ text → places_between bytes ≡ Some (s, p, o) → pair ≡ slots_in_row s p → (pair >>= with_object o) ≡ row_of text
 unfolding row_of
-some_row text bytes s p o subject predicate object one two three same parts is some own given last found = rw (← same, parts, ← is, some, ← own, given, ← last, found) refl
+by_pair text bytes s p o pair same parts is = rw (← same, parts, is) (joined (slot_in_row s) (slot_in_row p) (with_object o))
+
+pub no_pair : (text bytes s p o : List ℕ) (pair : Option (Slot × Slot)) → bytes ≡ text → places_between bytes ≡ Some (s, p, o) → pair ≡ slots_in_row s p → pair ≡ None → None ≡ row_of text
+no_pair text bytes s p o pair same parts is none = ap (λ (found : Option (Slot × Slot)). found >>= with_object o) (sym none) ∙ by_pair text bytes s p o pair same parts is
+
+pub no_object : (text bytes s p o : List ℕ) (pair : Option (Slot × Slot)) (object : Option Slot) (one two : Slot) → bytes ≡ text → places_between bytes ≡ Some (s, p, o) → pair ≡ slots_in_row s p → pair ≡ Some (one, two) → object ≡ slot_in_row o → object ≡ None → None ≡ row_of text
+no_object text bytes s p o pair object one two same parts is some last none = sym (ap (with_object_found one two) (sym last ∙ none)) ∙ ap (λ (found : Option (Slot × Slot)). found >>= with_object o) (sym some) ∙ by_pair text bytes s p o pair same parts is
+
+pub some_row : (text bytes s p o : List ℕ) (pair : Option (Slot × Slot)) (object : Option Slot) (one two three : Slot) → bytes ≡ text → places_between bytes ≡ Some (s, p, o) → pair ≡ slots_in_row s p → pair ≡ Some (one, two) → object ≡ slot_in_row o → object ≡ Some three → Some (record { subject = one; predicate = two; object = three }) ≡ row_of text
+some_row text bytes s p o pair object one two three same parts is some last found = sym (ap (with_object_found one two) (sym last ∙ found)) ∙ ap (λ (found : Option (Slot × Slot)). found >>= with_object o) (sym some) ∙ by_pair text bytes s p o pair same parts is

@@ -43,6 +43,13 @@ accepted (Err fault) = None
 abbrev pub slot_in_row : List ℕ → Option Slot
 slot_in_row text = when (is_utf8 (percent_decode text)) (percent_decode text) >>= (λ form. accepted (slot_of form))
 
+-- the slots of two places; None where one of them is refused
+abbrev pub slots_in_row : List ℕ → List ℕ → Option (Slot × Slot)
+slots_in_row first second = do
+  one ← slot_in_row first
+  two ← slot_in_row second
+  Some (one, two)
+
 -- three texts, and no more
 abbrev pub three_of : List (List ℕ) → Option (List ℕ × List ℕ × List ℕ)
 three_of [] = None

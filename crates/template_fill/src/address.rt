@@ -1,10 +1,10 @@
 // Addresses of the Web.
-ghost use Rattle.std.specs.Prelude.{ℕ, ◌≡◌, ◌==◌, ◌+◌, ◌<◌, ◌≤◌, ◌↔◌, List, ◌++◌, true, map, take, drop, length, is_some, IsTrue, IfOk, OnOk, IsErrOf};
+ghost use Rattle.std.specs.Prelude.{◌≡◌, ◌==◌, ◌+◌, ◌<◌, ◌≤◌, ◌↔◌, ◌++◌, true, map, take, drop, length, is_some, IsTrue, IfOk, OnOk, IsErrOf};
 ghost use Rattle.std.specs.String.{string_bytes};
 ghost use Rattle.std.specs.List.{list_all, list_any};
 ghost use Rattle.std.specs.Char.{to_ascii_lowercase, is_ascii};
 ghost use Rattle.rdf_terms.specs.Iri.{is_iri};
-ghost use Rattle.tpf_base.specs.Addresses.{Address, IsAddress, is_host_byte, authority_text, authority_of, target_of, address_text};
+ghost use Rattle.tpf_base.specs.Addresses.{Address, IsAddress, is_host_byte, authority_of, target_of, address_text};
 ghost use Rattle.template_fill.specs.Forms.{mark_behind};
 ghost use Rattle.template_fill.specs.ReadAddress.{IsSpelled, is_rest, rooted, normal};
 ghost use Rattle.template_fill.specs.Spelled.{spelled_of};

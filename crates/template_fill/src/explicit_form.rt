@@ -1,5 +1,5 @@
 // Explicit forms of terms, and the slots that texts stand for.
-ghost use Rattle.std.specs.Prelude.{◌≡◌, ◌∷◌, ◌++◌, IfOk, IfErr};
+ghost use Rattle.std.specs.Prelude.{◌≡◌, ◌∷◌, ◌++◌, IfOk, OnOk, IfErr};
 ghost use Rattle.std.specs.String.{string_bytes};
 ghost use Rattle.rdf_terms.specs.Valid.{IsNotBlank};
 ghost use Rattle.template_fill.specs.Explicit.{Gives, fixed, explicit_form, suffix, slot_of, read_iri, read_literal, suffixed_literal, tagged_literal, typed_literal, marked_literal};
@@ -24,23 +24,31 @@ pub fn explicit(alloc: Global, term: &Term) -> Result<Text, OutOfMemory>
     }
 }
 
+/// Appends what follows the second quote of a literal.
+fn push_suffix(out: &mut String, kind: &Kind) -> Result<(), AllocError>
+    ensures { OnOk result (string_bytes out.new ≡ string_bytes out.old ++ suffix kind.now) }
+{
+    match kind {
+        Kind::Plain => Ok(()),
+        Kind::Typed(datatype) => {
+            out.push_str("^^")?;
+            out.push_str(datatype.as_str())
+        }
+        Kind::Tagged(tag) => {
+            out.push('@')?;
+            out.push_str(tag.as_str())
+        }
+    }
+}
+
+/// A form in quotes, and what its kind puts after them.
 fn quoted(alloc: Global, form: &str, kind: &Kind) -> Result<String, AllocError>
     ensures { IfOk result (λ text. string_bytes text ≡ 34 ∷ (form.now ++ 34 ∷ suffix kind.now)) }
 {
     let mut text = String::from_str(alloc, "\"")?;
     text.push_str(form)?;
     text.push('"')?;
-    match kind {
-        Kind::Plain => {}
-        Kind::Typed(datatype) => {
-            text.push_str("^^")?;
-            text.push_str(datatype.as_str())?;
-        }
-        Kind::Tagged(tag) => {
-            text.push('@')?;
-            text.push_str(tag.as_str())?;
-        }
-    }
+    push_suffix(&mut text, kind)?;
     Ok(text)
 }
 

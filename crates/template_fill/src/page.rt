@@ -11,7 +11,7 @@ ghost use Rattle.std.specs.List.{AllByRecursion};
 use crate::WebAddress;
 use crate::explicit_form::explicit;
 use crate::rows::push_rows;
-use crate::value::push_value;
+use crate::value::push_named_value;
 use rdf_terms::{Slot, Slots};
 use std::alloc::Global;
 use tpf_base::OutOfMemory;
@@ -34,10 +34,7 @@ fn push_slot(
         return Ok(mark);
     };
     let value = explicit(alloc, term)?;
-    out.push(mark)?;
-    out.push_str(name)?;
-    out.push('=')?;
-    push_value(out, value.as_str())?;
+    push_named_value(out, mark, name, value.as_str())?;
     Ok('&')
 }
 

@@ -1,5 +1,5 @@
 // The expressions of a template.
-ghost use Rattle.std.specs.Prelude.{◌≡◌, ◌↔◌, ◌<◌, ◌++◌, true, Some, None, OnOk, MatchOption, IfOk, IfSome, IsErrOf};
+ghost use Rattle.std.specs.Prelude.{◌≡◌, ◌<◌, ◌++◌, true, Some, None, OnOk, MatchOption, IfOk, IfSome, IsErrOf};
 ghost use Rattle.std.specs.List.{list_all, list_any};
 ghost use Rattle.std.specs.Option.{option_copied};
 ghost use Rattle.std.specs.String.{string_bytes};
@@ -10,7 +10,7 @@ ghost use Rattle.template_fill.specs.Templates.{is_name_byte, is_word, is_name, 
 use crate::TemplateFault;
 use crate::address::ascii_text;
 use crate::spelled::are_address_bytes;
-use crate::value::{Value, push_value};
+use crate::value::{Value, push_named_value};
 use std::alloc::{AllocError, Global};
 use std::marker::Model;
 use tpf_base::Text;
@@ -182,10 +182,7 @@ fn push_pair(
     let Some(text) = value_of(values, name) else {
         return Ok(mark);
     };
-    out.push(mark)?;
-    out.push_str(name.as_str())?;
-    out.push('=')?;
-    push_value(out, text)?;
+    push_named_value(out, mark, name.as_str(), text)?;
     Ok('&')
 }
 

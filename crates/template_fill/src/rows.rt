@@ -3,7 +3,7 @@ ghost use Rattle.std.specs.Prelude.{◌≡◌, ◌<◌, ◌∷◌, [], ◌++◌,
 ghost use Rattle.std.specs.List.{AllByRecursion};
 ghost use Rattle.std.specs.String.{string_bytes};
 ghost use Rattle.template_fill.specs.Forms.{HasNoBlank, HasNoBlankSlot};
-ghost use Rattle.template_fill.specs.Rows.{places_between, row_of, row_pair, row_place, row_text, rows_text, slot_in_row};
+ghost use Rattle.template_fill.specs.Rows.{places_between, row_of, row_pair, row_place, row_text, rows_text, slot_in_row, slots_in_row};
 
 use crate::ValueFault;
 use crate::explicit_form::{explicit, read_explicit};
@@ -101,6 +101,23 @@ fn read_place(alloc: Global, text: &[u8]) -> Result<Option<Slot>, OutOfMemory>
     }
 }
 
+/// The slots of the first two places, or `None` where one of them is refused.
+fn read_first_places(
+    alloc: Global,
+    subject: &[u8],
+    predicate: &[u8],
+) -> Result<Option<(Slot, Slot)>, OutOfMemory>
+    ensures { IfOk result (λ slots. slots ≡ slots_in_row subject.now predicate.now) }
+{
+    let Some(subject) = read_place(alloc, subject)? else {
+        return Ok(None);
+    };
+    let Some(predicate) = read_place(alloc, predicate)? else {
+        return Ok(None);
+    };
+    Ok(Some((subject, predicate)))
+}
+
 /// The three texts between exactly two commas.
 fn places_between(text: &[u8]) -> Option<(&[u8], &[u8], &[u8])>
     ensures { MatchOption result (places_between text.now ≡ None)
@@ -125,10 +142,7 @@ pub fn read_row(alloc: Global, text: &str) -> Result<Option<Slots>, OutOfMemory>
     let Some((subject, predicate, object)) = places_between(text.as_bytes()) else {
         return Ok(None);
     };
-    let Some(subject) = read_place(alloc, subject)? else {
-        return Ok(None);
-    };
-    let Some(predicate) = read_place(alloc, predicate)? else {
+    let Some((subject, predicate)) = read_first_places(alloc, subject, predicate)? else {
         return Ok(None);
     };
     let Some(object) = read_place(alloc, object)? else {

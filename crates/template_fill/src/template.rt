@@ -1,6 +1,5 @@
 // Templates of addresses.
 ghost use Rattle.std.specs.Prelude.{◌≡◌, true, Some, None, IfOk, IsErrOf, MatchOption, IfSome};
-ghost use Rattle.std.specs.List.{list_any};
 ghost use Rattle.std.specs.Option.{option_copied};
 ghost use Rattle.tpf_base.specs.Addresses.{IsAddress, address_text};
 ghost use Rattle.template_fill.specs.ReadAddress.{IsSpelled};

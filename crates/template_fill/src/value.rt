@@ -1,6 +1,7 @@
 // Values of templates.
-ghost use Rattle.std.specs.Prelude.{◌≡◌, ◌++◌, OnOk, OnErr};
+ghost use Rattle.std.specs.Prelude.{◌≡◌, ◌<◌, ◌++◌, Some, OnOk};
 ghost use Rattle.std.specs.String.{string_bytes};
+ghost use Rattle.template_fill.specs.Templates.{pair_text};
 ghost use Rattle.template_fill.specs.Values.{encoded_value};
 
 use percent_encoding::{AsciiSet, NON_ALPHANUMERIC, ascii_set, utf8_percent_encode};
@@ -30,4 +31,21 @@ pub(crate) fn push_value(out: &mut String, value: &str) -> Result<(), AllocError
     ensures { OnOk result (string_bytes out.new ≡ string_bytes out.old ++ encoded_value value.now) }
 {
     utf8_percent_encode(value, VALUE).append_to(out)
+}
+
+/// Appends a name and its value after a mark.
+pub(crate) fn push_named_value(
+    out: &mut String,
+    mark: char,
+    name: &str,
+    value: &str,
+) -> Result<(), AllocError>
+    requires { mark < 128 }
+    ensures { OnOk result
+        (string_bytes out.new ≡ string_bytes out.old ++ pair_text mark name.now (Some value.now)) }
+{
+    out.push(mark)?;
+    out.push_str(name)?;
+    out.push('=')?;
+    push_value(out, value)
 }

@@ -1,5 +1,5 @@
 // Building the table: the terms by rank, and the triples as rows in each order.
-ghost use Rattle.std.specs.Prelude.{ℕ, ◌≡◌, ◌↔◌, ◌+◌, ◌*◌, ◌<◌, ◌≤◌, ◌^◌, ◌++◌, List, [], ◌∷◌, map, length, All, IfOk, OnOk, IsErrOf, slice_index_or};
+ghost use Rattle.std.specs.Prelude.{ℕ, ◌≡◌, ◌*◌, ◌<◌, ◌≤◌, ◌^◌, ◌++◌, List, [], ◌∷◌, map, length, All, IfOk, OnOk, IsErrOf};
 ghost use Rattle.std.specs.List.{Contains};
 ghost use Rattle.std.specs.List.Sorted.{IsPermutation, IsSortedByKey, IsStrictlySortedBy};
 ghost use Rattle.std.specs.Ordering.{nat_cmp};
@@ -11,6 +11,7 @@ ghost use Rattle.rdf_terms.specs.Valid.{IsValidTerm};
 ghost use Rattle.tpf_base.specs.Addresses.{IsAuthority};
 ghost use Rattle.triple_table.specs.Chosen.{chosen};
 ghost use Rattle.triple_table.specs.Genid.{skolem_triple};
+ghost use Rattle.triple_table.specs.Lengths.{kept_length};
 ghost use Rattle.triple_table.specs.Ranking.{borrowed_terms, HasMoreTerms, HoldsMore, SameMembers};
 ghost use Rattle.triple_table.specs.Rows.{key, row_of};
 ghost use Rattle.triple_table.specs.Served.{Clashes, IsLeastClash, IsServed};
@@ -27,6 +28,23 @@ use rdf_terms::{Quad, Term};
 use std::alloc::Global;
 use tpf_base::OutOfMemory;
 
+/// Adds the copy of a term, and the length of its canonical text.
+fn push_copy(
+    alloc: Global,
+    copies: &mut Vec<Term>,
+    lengths: &mut Vec<u32>,
+    term: &Term,
+) -> Result<(), OutOfMemory>
+    ensures copies { OnOk result (copies.new.items ≡ copies.old.items ++ term.now ∷ []) }
+    ensures lengths { OnOk result (lengths.new.items ≡ lengths.old.items ++ kept_length term.now ∷ []) }
+    ensures valid { IsValidTerm term.now }
+{
+    term.is_valid();
+    lengths.push(kept_length(term))?;
+    copies.push(term.copy(alloc)?)?;
+    Ok(())
+}
+
 /// Copies of terms, each with the length of its canonical text.
 fn copies_of(alloc: Global, terms: &[&Term]) -> Result<TermList, OutOfMemory>
     ensures { IfOk result (λ copies. copies ≡ borrowed_terms terms.now) }
@@ -34,10 +52,7 @@ fn copies_of(alloc: Global, terms: &[&Term]) -> Result<TermList, OutOfMemory>
     let mut copies = Vec::with_capacity(alloc, terms.len())?;
     let mut lengths = Vec::with_capacity(alloc, terms.len())?;
     for term in terms {
-        let copy = term.copy(alloc)?;
-        copy.is_valid();
-        lengths.push(kept_length(&copy))?;
-        copies.push(copy)?;
+        push_copy(alloc, &mut copies, &mut lengths, term)?;
     }
     Ok(TermList::from_vecs(copies, lengths))
 }

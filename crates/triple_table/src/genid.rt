@@ -1,5 +1,5 @@
 // Blank nodes as IRIs of the server's own: Skolem IRIs (RDF 1.1 Concepts 3.5).
-ghost use Rattle.std.specs.Prelude.{ℕ, ◌≡◌, ◌≢◌, ◌+◌, ◌<◌, ◌^◌, ◌↔◌, ◌++◌, List, IfOk, IfSome, MatchOption, IsTrue, string_bytes, length};
+ghost use Rattle.std.specs.Prelude.{ℕ, ◌≡◌, ◌≢◌, ◌+◌, ◌<◌, ◌++◌, List, IfOk, MatchOption, IsTrue, string_bytes};
 ghost use Rattle.rdf_terms.specs.Label.{is_label};
 ghost use Rattle.tpf_base.specs.Addresses.{IsAuthority};
 ghost use Rattle.triple_table.specs.Genid.{genid, skolem, skolem_triple};

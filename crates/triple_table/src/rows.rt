@@ -1,5 +1,5 @@
 // The rows of one order, which only one counting call compares.
-ghost use Rattle.std.specs.Prelude.{ℕ, ◌≡◌, ◌+◌, ◌<◌, ◌≤◌, ◌^◌, Bool, true, false, List, length, slice_index_or};
+ghost use Rattle.std.specs.Prelude.{ℕ, ◌≡◌, ◌+◌, ◌<◌, ◌≤◌, ◌^◌, true, false, List, length, slice_index_or};
 ghost use Rattle.std.specs.List.Sorted.{IsStrictlySortedBy};
 ghost use Rattle.triple_table.specs.declared.ids.Row.{Row};
 ghost use Rattle.triple_table.specs.Rows.{key, row_order, goes_before};

@@ -1,4 +1,4 @@
-use Rattle.template_fill.proofs.ReadRows.{no_places, no_subject, no_predicate, no_object, some_row}
+use Rattle.template_fill.proofs.ReadRows.{no_places, no_pair, no_object, some_row}
 use Rattle.template_fill.proofs.rows.read_row.Goals as goal
 
 pub returns-in_default : goal.returns-in_default
@@ -6,19 +6,14 @@ returns-in_default c = no_places c.args.text.now c.as_bytes.result.now c.as_byte
 
 pub returns-in_default-2 : goal.returns-in_default-2
 returns-in_default-2 c =
-    no_subject c.args.text.now c.as_bytes.result.now c.in-Some.subject.now c.in-Some.predicate.now c.in-Some.object.now c.in_ok-subject.field-0 c.as_bytes.ensures.value c.in-Some.ensures c.in_ok-subject.ensures c.in_default-2.is
+    no_pair c.args.text.now c.as_bytes.result.now c.in-Some.subject.now c.in-Some.predicate.now c.in-Some.object.now c.in_ok-subject.field-0 c.as_bytes.ensures.value c.in-Some.ensures c.in_ok-subject.ensures c.in_default-2.is
 
 pub returns-in_default-3 : goal.returns-in_default-3
 returns-in_default-3 c =
-    no_predicate c.args.text.now c.as_bytes.result.now c.in-Some.subject.now c.in-Some.predicate.now c.in-Some.object.now c.in_ok-subject.field-0 c.in_ok-predicate.field-0 c.in-Some-2.subject c.as_bytes.ensures.value c.in-Some.ensures c.in_ok-subject.ensures c.in-Some-2.is
-    c.in_ok-predicate.ensures c.in_default-3.is
-
-pub returns-in_default-4 : goal.returns-in_default-4
-returns-in_default-4 c =
-    no_object c.args.text.now c.as_bytes.result.now c.in-Some.subject.now c.in-Some.predicate.now c.in-Some.object.now c.in_ok-subject.field-0 c.in_ok-predicate.field-0 c.in_ok-object.field-0 c.in-Some-2.subject c.in-Some-3.predicate c.as_bytes.ensures.value c.in-Some.ensures c.in_ok-subject.ensures
-    c.in-Some-2.is c.in_ok-predicate.ensures c.in-Some-3.is c.in_ok-object.ensures c.in_default-4.is
+    no_object c.args.text.now c.as_bytes.result.now c.in-Some.subject.now c.in-Some.predicate.now c.in-Some.object.now c.in_ok-subject.field-0 c.in_ok-object.field-0 c.in-Some-2.subject c.in-Some-2.predicate c.as_bytes.ensures.value c.in-Some.ensures c.in_ok-subject.ensures c.in-Some-2.is
+    c.in_ok-object.ensures c.in_default-3.is
 
 pub returns : goal.returns
 returns c =
-    some_row c.args.text.now c.as_bytes.result.now c.in-Some.subject.now c.in-Some.predicate.now c.in-Some.object.now c.in_ok-subject.field-0 c.in_ok-predicate.field-0 c.in_ok-object.field-0 c.in-Some-2.subject c.in-Some-3.predicate c.in-Some-4.object c.as_bytes.ensures.value c.in-Some.ensures
-    c.in_ok-subject.ensures c.in-Some-2.is c.in_ok-predicate.ensures c.in-Some-3.is c.in_ok-object.ensures c.in-Some-4.is
+    some_row c.args.text.now c.as_bytes.result.now c.in-Some.subject.now c.in-Some.predicate.now c.in-Some.object.now c.in_ok-subject.field-0 c.in_ok-object.field-0 c.in-Some-2.subject c.in-Some-2.predicate c.in-Some-3.object c.as_bytes.ensures.value c.in-Some.ensures
+    c.in_ok-subject.ensures c.in-Some-2.is c.in_ok-object.ensures c.in-Some-3.is

@@ -2,5 +2,4 @@ use Rattle.hydra_controls.proofs.TermLaws.{quad_is}
 use Rattle.hydra_controls.proofs.quad_text.QuadText.quad.Goals as goal
 
 pub returns : goal.returns
-returns c =
-    quad_is c.args.self c.in_ok-subject.subject c.in_ok-predicate.predicate c.in_ok-object.object c.in_ok-graph.graph c.in_ok-subject.ensures c.in_ok-predicate.ensures c.in_ok-object.ensures c.in_ok-graph.ensures
+returns c = quad_is c.args.self c.in_ok-triple.triple c.in_ok-graph.graph c.in_ok-triple.ensures c.in_ok-graph.ensures

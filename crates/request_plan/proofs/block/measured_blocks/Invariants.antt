@@ -1,7 +1,7 @@
 use Rattle.std.proofs.Common.{◌≡◌, ◌++◌, drop}
 use Rattle.request_plan.specs.Blocks.{forms_cut, blocks}
 use Rattle.request_plan.specs.Targets.{block_lengths}
-use Rattle.request_plan.proofs.block.cut_rows.Given as goal
+use Rattle.request_plan.proofs.block.measured_blocks.Given as goal
 
 abbrev pub invariant-loop-length : goal.invariant-loop-length
 invariant-loop-length l = record {

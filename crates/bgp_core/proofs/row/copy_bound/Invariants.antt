@@ -1,6 +1,0 @@
-use Rattle.std.proofs.Common.{◌≡◌, take, map}
-use Rattle.bgp_core.specs.Rows.{bound_pair}
-use Rattle.bgp_core.proofs.row.copy_bound.Given as goal
-
-abbrev pub invariant-loop-one : goal.invariant-loop-one
-invariant-loop-one l = map bound_pair l.copy.items ≡ map bound_pair (take l.one-index l.bound)
