@@ -24,7 +24,7 @@ use tpf_base::{Dial, Fault, Halt, OutOfMemory, send_rest};
 const BESIDE: usize = 64;
 
 /// Where an exchange stands.
-#[derive(Clone, Copy, Debug, PartialEq, Eq)]
+#[derive(Clone, Copy)]
 pub(crate) enum Standing {
     /// It was not ready yet.
     Underway,

@@ -9,7 +9,7 @@ use crate::incoming::Incoming;
 use tpf_base::{Moved, Wire};
 
 /// How receiving came to an end.
-#[derive(Clone, Copy, Debug, PartialEq, Eq)]
+#[derive(Clone, Copy)]
 pub(crate) enum Received {
     /// The reply is whole, or it is refused.
     Read,

@@ -1,8 +1,9 @@
 -- How often a wire fails on which nothing but dials is due.
-use Rattle.std.proofs.Common.{ℕ, suc, ◌≡◌, ◌-◌, ◌*◌, ◌/◌, ◌%◌, ◌^◌, ◌<◌, ◌≤◌, ◌||◌, true, false, Some, refl, ap, sym, subst, ◌∙◌, arith, div-add-mod', lt_of_mul-lt-mul_right, mul-le-mul_right}
+use Rattle.std.proofs.Common.{ℕ, suc, ◌≡◌, ◌-◌, ◌*◌, ◌/◌, ◌%◌, ◌^◌, ◌<◌, ◌≤◌, ◌||◌, true, false, Some, Ok, Err, refl, ap, sym, subst, ◌∙◌, arith, div-add-mod', lt_of_mul-lt-mul_right, mul-le-mul_right}
 use Rattle.std.proofs.lemmas.Bool.Decides.{nat_tests}
-use Rattle.tpf_base.specs.Causes.{counted}
+use Rattle.tpf_base.specs.Causes.{counted, DoesNotFail}
 use Rattle.tpf_base.specs.Failures.{CallCounts, no_calls, is_nth, is_due, is_dial_due}
+use Rattle.tpf_base.specs.declared.fault.Fault.TheVariants as fault
 use Rattle.tpf_base.specs.declared.failing.Failing.{Failing}
 use Rattle.tpf_base.specs.declared.failing.Failing.TheVariants.{Never, Every, At, AfterBytes, Dials}
 use Rattle.loop_wire.specs.Looped.{is_steady, every_of, FewFaults, CountsDue}
@@ -100,3 +101,10 @@ dial_was_due old mid new moved m e due is fails every free =
     let nth : is_nth e (counted old.dials) ≡ true = dial_due old.failing (counted old.calls) (counted old.dials) moved e due every in
     let not_nth : is_nth e (counted old.dials) ≡ false = ap (is_nth e) (sym dials) ∙ free in
     cc
+
+-- a call that succeeded, or wanted memory, did not fail
+pub spared : {T : Type 0} (before now : ℕ) (x : T) → now ≡ before → DoesNotFail before now (Ok x)
+spared before now x same = record { same = same; answer = λ f. absurd cc }
+
+pub spared_memory : (before now : ℕ) → now ≡ before → DoesNotFail {T = ℕ} before now (Err fault.OutOfMemory)
+spared_memory before now same = record { same = same; answer = λ f. absurd cc }

@@ -1,3 +1,4 @@
+pub mod Feeding
 pub mod Talks
 pub mod Lists
 pub mod Calls

@@ -57,10 +57,11 @@ module _ {C : Type 0} where
       let P : Held → Held → Type 0 = λ a b. Hears stalls front a b answer in
       subst (λ a. P a (get_or (held_of (set links k new)) k no_link)) (seen_at links k d below) (subst (λ b. P (get_or links k d).held b) (sym (held_new links k new below)) hears)
 
-  pub gives_at : (links : List (LoopLink C)) (k : ℕ) (d new : LoopLink C) (owes : List ℕ → List ℕ) (most : ℕ) (stalls : Bool) (to : List ℕ) (answer : Moved) → k < length links
-      → Gives owes most stalls to (get_or links k d).held new.held answer → Gives owes most stalls to (get_or (held_of links) k no_link) (get_or (held_of (set links k new)) k no_link) answer
+  pub gives_at : (links : List (LoopLink C)) (k : ℕ) (d new : LoopLink C) (owes : Owing) (most : ℕ) (stalls : Bool) (to : List ℕ) (answer : Moved) → k < length links
+      → Gives (owes (get_or links k d).held.peer) most stalls to (get_or links k d).held new.held answer
+      → Gives (owes (get_or (held_of links) k no_link).peer) most stalls to (get_or (held_of links) k no_link) (get_or (held_of (set links k new)) k no_link) answer
   gives_at links k d new owes most stalls to answer below gives =
-      let P : Held → Held → Type 0 = λ a b. Gives owes most stalls to a b answer in
+      let P : Held → Held → Type 0 = λ a b. Gives (owes a.peer) most stalls to a b answer in
       subst (λ a. P a (get_or (held_of (set links k new)) k no_link)) (seen_at links k d below) (subst (λ b. P (get_or links k d).held b) (sym (held_new links k new below)) gives)
 
 module _ {C Data Settings : Type 0} where
@@ -110,11 +111,6 @@ receive_peer answers.End short h = refl
 receive_peer answers.NotYet short h = refl
 receive_peer answers.Failed short h = refl
 receive_peer answers.OutOfMemory short h = refl
-
-module _ {C Server : Type 0} (there : Option (List ℕ × ℕ) → Option Server) where
-  -- the link at a number is one and the same
-  pub there_at : (links : List (LoopLink C)) (k : ℕ) (d e : LoopLink C) (server : Server) → k < length links → there (get_or links k d).held.peer ≡ Some server → there (get_or links k e).held.peer ≡ Some server
-  there_at links k d e server below is = ap (λ (h : Held). there h.peer) (seen_at links k e below ∙ sym (seen_at links k d below)) ∙ is
 
 module _ {C Server Data Settings : Type 0} (kind : Kind C Data Settings) (Suits : Server → C → Type 0) (serving : Server → Serving Data Settings) (response_at : Serving Data Settings → List ℕ → List ℕ) (there : Option (List ℕ × ℕ) → Option Server) where
   abbrev Served : LoopLink C → Type 0
@@ -178,13 +174,11 @@ module _ {C Server Data Settings : Type 0} (kind : Kind C Data Settings) (Suits 
   is_held_at (l ∷ links) (suc k) all below = is_held_at links k all.1 (omega arith)
 
   -- what was received of a link is what is owed on it
-  pub gives_owed : (links : List (LoopLink C)) (k : ℕ) (d new : LoopLink C) (server : Server) (most : ℕ) (stalls : Bool) (to : List ℕ) (answer : Moved) → k < length links
-      → there (get_or links k d).held.peer ≡ Some server → Gives (response_at (serving server)) most stalls to (get_or links k d).held new.held answer
-      → Gives (Owed (get_or (held_of links) k no_link).peer) most stalls to (get_or (held_of links) k no_link) (get_or (held_of (set links k new)) k no_link) answer
-  gives_owed links k d new server most stalls to answer below is gives =
-      let there_too : there (get_or (held_of links) k no_link).peer ≡ Some server = ap (λ (h : Held). there h.peer) (sym (seen_at links k d below)) ∙ is in
-      subst (λ (owes : List ℕ → List ℕ). Gives owes most stalls to (get_or (held_of links) k no_link) (get_or (held_of (set links k new)) k no_link) answer)
-      (sym (owed_is (get_or (held_of links) k no_link).peer server there_too)) (gives_at links k d new (response_at (serving server)) most stalls to answer below gives)
+  pub gives_by : (l new : LoopLink C) (server : Server) (most : ℕ) (stalls : Bool) (to : List ℕ) (answer : Moved)
+      → there l.held.peer ≡ Some server → Gives (response_at (serving server)) most stalls to l.held new.held answer
+      → Gives (Owed l.held.peer) most stalls to l.held new.held answer
+  gives_by l new server most stalls to answer is gives =
+      subst (λ (owes : List ℕ → List ℕ). Gives owes most stalls to l.held new.held answer) (sym (owed_is l.held.peer server is)) gives
 
 -- what is owed to more begins with what is owed to less
 pub owed_lasts : {Server Data Settings : Type 0} (serving : Server → Serving Data Settings) (response_at : Serving Data Settings → List ℕ → List ℕ) → Lasts response_at → (o : Option Server) (fed more : List ℕ)

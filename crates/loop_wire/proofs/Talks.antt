@@ -1,5 +1,5 @@
 -- A link, its connection and what is owed.
-use Rattle.std.proofs.Common.{ℕ, zero, suc, ◌≡◌, ◌<◌, ◌≤◌, ◌+◌, ◌-◌, ◌++◌, Bool, true, false, List, [], length, take, nat_lt, ◌==◌, if◌then◌else◌, Option, Some, None, Result, Ok, Err, OnOk, is_err, refl, ap, sym, subst, ◌∙◌, length-append, arith}
+use Rattle.std.proofs.Common.{ℕ, zero, suc, ◌≡◌, ◌<◌, ◌≤◌, ◌+◌, ◌-◌, ◌++◌, Bool, true, false, List, [], length, take, nat_lt, ◌==◌, if◌then◌else◌, Option, Some, None, Result, Ok, Err, OnOk, OnErr, is_err, refl, ap, sym, subst, ◌∙◌, length-append, arith}
 use Rattle.std.proofs.lemmas.List.{append-nil, take-append-le, length-take-le}
 use Rattle.std.proofs.Math.Seq.{take-append-add}
 use Rattle.std.proofs.lemmas.Grind.{common_steps}
@@ -10,7 +10,7 @@ use Rattle.connections.specs.Kinds.{Kind, IsWhole}
 use Rattle.connections.specs.Versions.{Serving}
 use Rattle.connections.proofs.Histories.{some_history}
 use Rattle.loop_wire.specs.Response.{Answering, IsResponse, BeginsAt, Continues, Stays, Lasts}
-use Rattle.loop_wire.specs.Held.{Held, told, settled, stalled_at, sent_more, received_more, ended_now, closed, woken_now, IsHeld, IsTalking, Talks, IsKept, Gives}
+use Rattle.loop_wire.specs.Held.{Held, told, settled, stalled_at, sent_more, received_more, ended_now, closed, woken_now, after_send, after_receive, IsHeld, IsTalking, Talks, IsKept, Hears, Gives}
 
 -- ---- what is owed
 
@@ -70,10 +70,6 @@ module _ {C Data Settings : Type 0} where
       is_over held.received (response_at serving held.sent) (all.text ∙ respond past.0 serving held.sent now.marks past.1 all.marked now.versions now.numbers)
 
   -- ---- a link and its connection after a call
-
-  pub talks_as : (kind : Kind C Data Settings) (suits : C → Type 0) (serving : Serving Data Settings) (owes : List ℕ → List ℕ) (held : Held) (connection : Option C) (c : C)
-      → connection ≡ Some c → Talks kind suits serving owes held connection → IsTalking kind suits serving owes held c
-  talks_as kind suits serving owes held connection c is talks = let P : Option C → Type 0 = λ o. Talks kind suits serving owes held o in subst P is talks
 
   pub kept_sent : (kind : Kind C Data Settings) (suits : C → Type 0) (serving : Serving Data Settings) (response_at : Serving Data Settings → List ℕ → List ℕ) (held : Held) (front : List ℕ) (c c' : C)
       → Lasts response_at → IsHeld (response_at serving) held → IsTalking kind suits serving (response_at serving) held c → Continues kind serving front [] c c' → suits c'
@@ -177,6 +173,10 @@ pub on_ok : {T E : Type 0} (P : Type 0) (r : Result T E) → OnOk r P → is_err
 on_ok P (Ok x) here fine = here
 on_ok P (Err e) here fine = absurd cc
 
+pub on_err : {T E : Type 0} (P : Type 0) (r : Result T E) → OnErr r P → is_err r ≡ true → P
+on_err P (Ok x) here fails = absurd cc
+on_err P (Err e) here fails = here
+
 pub some_there : (n : ℕ) (b : Bool) → b ≡ (n == 0) → b ≡ false → 0 < n
 some_there zero b is not_so = absurd cc
 some_there (suc n) b is not_so = omega arith
@@ -227,10 +227,22 @@ gives_bytes owes most n stalls to pending rest old new is left some within room 
   later = let P : Held → Type 0 = λ h. old.stalls ≤ h.stalls in subst P (sym left) (omega arith);
 }
 
+-- a call that wanted memory left the link as it was
+pub left_unsent : (stalls : Bool) (front : List ℕ) (old new : Held) (answer : Moved) → answer ≡ answers.OutOfMemory → Hears stalls front old new answer → new ≡ old
+left_unsent stalls front old new answer is hears = hears.left ∙ ap (λ (a : Moved). after_send a front old) is
+
+pub left_unreceived : (owes : List ℕ → List ℕ) (most : ℕ) (stalls : Bool) (to : List ℕ) (old new : Held) (answer : Moved) → answer ≡ answers.OutOfMemory → Gives owes most stalls to old new answer → new ≡ old
+left_unreceived owes most stalls to old new answer is gives = gives.left ∙ ap (λ (a : Moved). after_receive a (is_short (told owes old)) old) is
+
 module _ {C Data Settings : Type 0} where
   pub kept_as : (kind : Kind C Data Settings) (suits : C → Type 0) (serving : Serving Data Settings) (owes : List ℕ → List ℕ) (held held' : Held) (connection : Option C)
       → held' ≡ held → IsKept kind suits serving owes held connection → IsKept kind suits serving owes held' connection
   kept_as kind suits serving owes held held' connection is kept = let P : Held → Type 0 = λ h. IsKept kind suits serving owes h connection in subst P (sym is) kept
+
+  -- the connection is given up
+  pub kept_gone : (kind : Kind C Data Settings) (suits : C → Type 0) (serving : Serving Data Settings) (owes : List ℕ → List ℕ) (held held' : Held) (connection : Option C)
+      → held' ≡ held → IsKept kind suits serving owes held connection → IsKept kind suits serving owes held' None
+  kept_gone kind suits serving owes held held' connection is kept = kept_as kind suits serving owes held held' None is (record { is_held = kept.is_held; talks = tt })
 
   -- nothing was there to be received
   pub kept_nothing : (kind : Kind C Data Settings) (suits : C → Type 0) (serving : Serving Data Settings) (owes : List ℕ → List ℕ) (held held' : Held) (ends : Bool) (c c' : C)

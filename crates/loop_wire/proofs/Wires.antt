@@ -1,5 +1,5 @@
 -- A wire's links behind a slice of them, its counts, and what a call needs.
-use Rattle.std.proofs.Common.{ℕ, zero, suc, ◌≡◌, ◌<◌, ◌≤◌, ◌++◌, ◌&&◌, not, Bool, true, false, List, [], ◌∷◌, length, take, drop, set, get_or, Option, Some, refl, ap, sym, subst, ◌∙◌, arith}
+use Rattle.std.proofs.Common.{ℕ, zero, suc, ◌≡◌, ◌<◌, ◌≤◌, ◌++◌, ◌&&◌, not, min, Bool, true, false, List, [], ◌∷◌, length, take, drop, set, get_or, Option, Some, refl, ap, sym, subst, ◌∙◌, arith}
 use Rattle.std.proofs.lemmas.List.{append-nil}
 use Rattle.std.proofs.Math.ListN.{drop_of_length-le}
 use Rattle.std.proofs.Math.Seq.{take-length}
@@ -57,6 +57,13 @@ counts_failed old mid new m is fails later unsteady = record {
 pub some_room : (failing failing' : Failing) (moved there n : ℕ) → failing' ≡ failing → n ≡ room failing' moved there → 0 < room failing moved there → 0 < n
 some_room failing failing' moved there n same is some = let e : n ≡ room failing moved there = is ∙ ap (λ f. room f moved there) same in omega (arith, e, some)
 
+-- of so many bytes that are there, at most so many
+pub few_within : (n most cut there : ℕ) → n ≤ most → most ≡ min cut there → n ≤ there
+few_within n most cut there few is = omega (arith, few, is)
+
+pub some_within : (most cut there : ℕ) → 1 ≤ cut → 0 < there → most ≡ min cut there → 0 < most
+some_within most cut there some room is = omega (arith, some, room, is)
+
 -- ---- stalls
 
 -- a call that stalls was not woken
@@ -101,6 +108,9 @@ module _ {C : Type 0} where
 
   pub slice_below : (links seen : List (LoopLink C)) (k : ℕ) → seen ≡ links → k < length (held_of links) → k < length seen
   slice_below links seen k is below = omega (arith, below, ap length is, length_held links)
+
+  pub held_below : (links seen : List (LoopLink C)) (k : ℕ) → seen ≡ links → k < length seen → k < length (held_of links)
+  held_below links seen k is below = omega (arith, below, ap length is, length_held links)
 
   pub hears_along : (k : ℕ) (links seen : List (LoopLink C)) (h : Held) (stalls : Bool) (front front' : List ℕ) (answer : Moved) → seen ≡ links → front ≡ front'
       → Hears stalls front (get_or (held_of seen) k no_link) h answer → Hears stalls front' (get_or (held_of links) k no_link) h answer

@@ -7,7 +7,7 @@ use std::marker::Model;
 
 /// How often a wait was called, and how often it failed. Contracts see it as these counts, each of
 /// which stops at 2^64 - 1.
-#[derive(Debug, Drop)]
+#[derive(Drop)]
 pub struct Waits {
     calls: u64,
     faults: u64,

@@ -1,5 +1,5 @@
 // How moves are cut, which stall, and what is counted of them.
-ghost use Rattle.std.specs.Prelude.{◌≡◌, ◌+◌, ◌<◌, ◌≤◌, ◌%◌, ◌==◌, ◌&&◌, not};
+ghost use Rattle.std.specs.Prelude.{◌≡◌, ◌+◌, ◌≤◌, ◌%◌, ◌==◌, ◌&&◌, not};
 ghost use Rattle.rand_pcg.specs.Pcg.{pcg32};
 ghost use Rattle.loop_wire.specs.declared.cuts.TheConstants.{MOST_CUT};
 ghost use Rattle.loop_wire.specs.Looped.{moved_by, woke_after};

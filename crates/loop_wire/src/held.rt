@@ -1,6 +1,6 @@
 // What the wire holds of a link beside its connection.
-ghost use Rattle.std.specs.Prelude.{ℕ, ◌≡◌, ◌+◌, ◌++◌, ◌≤◌, Some, None, true, false, OnOk, OnErr, if◌then◌else◌};
-ghost use Rattle.tpf_base.specs.Links.{Way, Receiving};
+ghost use Rattle.std.specs.Prelude.{◌≡◌, ◌≤◌, Some, None, true, false, OnOk, OnErr, if◌then◌else◌};
+ghost use Rattle.tpf_base.specs.Links.{Receiving};
 ghost use Rattle.loop_wire.specs.Held.{Held, new_link, settled, stalled_at, sent_more, received_more, ended_now, closed, woken_now};
 ghost use Rattle.loop_wire.specs.Sides.{way_of, stalled_of};
 
@@ -9,7 +9,7 @@ use std::marker::Model;
 use tpf_base::{Moved, OutOfMemory, Text};
 
 /// What a call on a link does with bytes.
-#[derive(Clone, Copy, Debug)]
+#[derive(Clone, Copy)]
 pub enum Side {
     Sending,
     Receiving,
@@ -17,7 +17,7 @@ pub enum Side {
 
 /// What is held of a link. The bytes that were received are no part of it: they are a prefix of the
 /// response to those that were sent.
-#[derive(Debug, Drop)]
+#[derive(Drop)]
 pub struct HeldLink {
     host: Text,
     port: u16,

@@ -1,12 +1,37 @@
 // The links of a wire by their number.
-ghost use Rattle.std.specs.Prelude.{ℕ, ◌≡◌, ◌<◌, ◌≤◌, List, length, set, get_or, Option, Some, true, false, IfSome, IfNone};
-ghost use Rattle.loop_wire.specs.Held.{no_link, settled, closed, woken_now, Hears, Gives};
+ghost use Rattle.std.specs.Prelude.{ℕ, ◌≡◌, ◌<◌, ◌≤◌, List, [], ◌∷◌, ◌++◌, length, set, get_or, Option, Some, is_some, true, false, IfSome, IfNone, OnOk, OnErr};
+ghost use Rattle.loop_wire.specs.Held.{no_link, new_link, settled, closed, woken_now, Hears, Gives};
 ghost use Rattle.loop_wire.specs.Standing.{owed_to};
 ghost use Rattle.loop_wire.specs.Looped.{held_of, IsServed, AreServed};
 
+use crate::held::HeldLink;
 use crate::link::LoopLink;
 use crate::{Behind, RespondsAt};
-use tpf_base::Moved;
+use tpf_base::{Moved, OutOfMemory, Text};
+
+/// Gives a link to this host and port, on which nothing happened yet.
+pub fn give<C: RespondsAt>(
+    links: &mut Vec<LoopLink<C>>,
+    host: &str,
+    port: u16,
+) -> Result<(), OutOfMemory>
+    ensures held { OnOk result (held_of links.new.items
+        ≡ held_of links.old.items ++ new_link (Some (host.now, port)) ∷ []) }
+    ensures kept { OnOk result ((there : Option (List ℕ × ℕ) → Option C.Server)
+        → is_some (there (Some (host.now, port))) ≡ true
+        → AreServed C.kind C.Suits C.Server.serving C.response_at there links.old.items
+        → AreServed C.kind C.Suits C.Server.serving C.response_at there links.new.items) }
+    ensures err { OnErr result (links.new.items ≡ links.old.items) }
+{
+    let alloc = *links.allocator();
+    let host = Text::copy(alloc, host)?;
+    let link = LoopLink {
+        held: HeldLink::new(alloc, host, port),
+        connection: Some(C::new(alloc)),
+    };
+    links.push(link)?;
+    Ok(())
+}
 
 /// The first link from this one to that one which may move a byte.
 fn first_ripe<C: RespondsAt>(links: &[LoopLink<C>], from: usize, to: usize) -> Option<usize>
@@ -99,6 +124,22 @@ fn server_of<'a, C: RespondsAt, B: Behind<C>>(
     }
 }
 
+/// Sends these bytes on a link by the server that answers it, unless the call is to stall.
+fn send_on<C: RespondsAt, B: Behind<C>>(
+    link: &mut LoopLink<C>,
+    servers: &B::Servers,
+    stalls: bool,
+    front: &[u8],
+) -> Moved
+    requires is_open { link.old.held.is_open ≡ true }
+    requires served { IsServed C.kind C.Suits C.Server.serving C.response_at (B.server_of servers.now) link.old }
+    ensures hears { Hears stalls front.now link.old.held link.new.held result }
+    ensures served { IsServed C.kind C.Suits C.Server.serving C.response_at (B.server_of servers.now) link.new }
+{
+    let server = server_of::<C, B>(servers, link);
+    link.send(server, stalls, front)
+}
+
 /// Sends these bytes on this open link, unless the call is to stall.
 pub fn send<C: RespondsAt, B: Behind<C>>(
     links: &mut [LoopLink<C>],
@@ -115,8 +156,28 @@ pub fn send<C: RespondsAt, B: Behind<C>>(
     ensures held { held_of links.new ≡ set (held_of links.old) k (get_or (held_of links.new) k no_link) }
     ensures kept { AreServed C.kind C.Suits C.Server.serving C.response_at (B.server_of servers.now) links.new }
 {
-    let server = server_of::<C, B>(servers, &links[k]);
-    links[k].send(server, stalls, front)
+    send_on::<C, B>(&mut links[k], servers, stalls, front)
+}
+
+/// Receives at most so many bytes on a link from the server that answers it, unless the call is to stall.
+fn receive_on<C: RespondsAt, B: Behind<C>>(
+    link: &mut LoopLink<C>,
+    servers: &B::Servers,
+    stalls: bool,
+    most: usize,
+    to: &mut [u8],
+) -> Moved
+    requires is_open { link.old.held.is_open ≡ true }
+    requires most { 0 < most }
+    requires room { 0 < length to.old }
+    requires served { IsServed C.kind C.Suits C.Server.serving C.response_at (B.server_of servers.now) link.old }
+    ensures gives { Gives
+        (owed_to C.response_at C.Server.serving B.server_of servers.now link.old.held.peer)
+        most stalls to.new link.old.held link.new.held result }
+    ensures served { IsServed C.kind C.Suits C.Server.serving C.response_at (B.server_of servers.now) link.new }
+{
+    let server = server_of::<C, B>(servers, link);
+    link.receive(server, stalls, most, to)
 }
 
 /// Receives at most so many bytes on this open link, unless the call is to stall.
@@ -139,6 +200,5 @@ pub fn receive<C: RespondsAt, B: Behind<C>>(
     ensures held { held_of links.new ≡ set (held_of links.old) k (get_or (held_of links.new) k no_link) }
     ensures kept { AreServed C.kind C.Suits C.Server.serving C.response_at (B.server_of servers.now) links.new }
 {
-    let server = server_of::<C, B>(servers, &links[k]);
-    links[k].receive(server, stalls, most, to)
+    receive_on::<C, B>(&mut links[k], servers, stalls, most, to)
 }

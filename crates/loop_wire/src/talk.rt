@@ -1,5 +1,5 @@
 // What the wire does with a connection.
-ghost use Rattle.std.specs.Prelude.{ℕ, ◌≡◌, ◌<◌, ◌≤◌, List, [], length, take, true, false, OnOk};
+ghost use Rattle.std.specs.Prelude.{◌≡◌, ◌<◌, ◌≤◌, [], length, take, false, OnOk};
 ghost use Rattle.loop_wire.specs.Response.{Continues, Stays};
 
 use crate::RespondsAt;

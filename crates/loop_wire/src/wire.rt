@@ -1,26 +1,22 @@
 // A wire in one process.
-ghost use Rattle.std.specs.Prelude.{ℕ, ◌≡◌, ◌≢◌, ◌+◌, ◌<◌, ◌≤◌, List, [], ◌∷◌, ◌++◌, length, take, min, set, map, get_or, Option, Some, None, Ok, Err, Bool, true, false, IfOk, OnOk, OnErr, IfSome, IfNone, IsErrOf, is_err, ◌↔◌};
-ghost use Rattle.tpf_base.specs.Causes.{HasCause, counted};
-ghost use Rattle.tpf_base.specs.Failures.{no_calls, is_next_due, is_next_dial_due, room};
-ghost use Rattle.tpf_base.specs.Links.{WireState, SameAllowed, IsRipe};
-ghost use Rattle.tpf_base.specs.Calls.{Sends, Receives, Closes, GivesDialled, GivesNone, OnlyDials, OnlyWaits, Wakes};
-ghost use Rattle.loop_wire.specs.Held.{Held, told, no_link, new_link};
+ghost use Rattle.std.specs.Prelude.{◌≡◌, ◌<◌, length, min, get_or, Some, Ok, Err, true, false, is_err};
+ghost use Rattle.tpf_base.specs.Failures.{is_next_due, is_next_dial_due, room};
+ghost use Rattle.loop_wire.specs.Held.{told, no_link};
 ghost use Rattle.loop_wire.specs.Standing.{owed_to};
-ghost use Rattle.loop_wire.specs.Looped.{Looped, new_wire, state_in, wire_of, held_of, AreServed, CountsDue};
+ghost use Rattle.loop_wire.specs.Looped.{Looped, new_wire, state_in, held_of, AreServed, CountsDue};
 ghost use Rattle.rand_pcg.specs.Pcg.{multiplier_64};
 ghost use Rattle.rand_pcg.specs.Lcg.{started, increment_of};
 
 use crate::behind::is_there;
 use crate::counts::Waits;
 use crate::cuts::{cut, is_woke_after, moved_after, place, stalls};
-use crate::held::HeldLink;
 use crate::link::LoopLink;
-use crate::links::{close, next_ripe, receive, send, settle, wake};
+use crate::links::{close, give, next_ripe, receive, send, settle, wake};
 use crate::{Behind, One, RespondsAt, Servers, Several, StandsAt};
 use rand_pcg::Pcg32;
 use std::alloc::Global;
 use std::marker::Model;
-use tpf_base::{Dial, Failing, Failures, Fault, Moved, Ready, Text, Wire};
+use tpf_base::{Dial, Failing, Failures, Fault, Moved, Ready, Wire};
 
 /// The stream of the generator: any one serves.
 const STREAM: u64 = 54;
@@ -234,16 +230,8 @@ impl<C: RespondsAt, B: Behind<C>> Dial for LoopWire<C, B> {
             self.provoked = self.provoked.saturating_add(1);
             return Err(Fault::Failed);
         }
-        let alloc = *self.links.allocator();
-        let Ok(host) = Text::copy(alloc, host) else {
-            return Err(Fault::OutOfMemory);
-        };
         let number = self.links.len() as u64;
-        let link = LoopLink {
-            held: HeldLink::new(alloc, host, port),
-            connection: Some(C::new(alloc)),
-        };
-        if self.links.push(link).is_err() {
+        if give(&mut self.links, host, port).is_err() {
             return Err(Fault::OutOfMemory);
         }
         self.woke = false;

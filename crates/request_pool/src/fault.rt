@@ -43,7 +43,7 @@ pub enum PoolFault {
 }
 
 /// What a pool keeps of the fault that ended it: all but the bytes, which were handed over.
-#[derive(Clone, Copy, Debug, PartialEq, Eq)]
+#[derive(Clone, Copy)]
 pub(crate) enum KeptFault {
     Exchange,
     Stalled,

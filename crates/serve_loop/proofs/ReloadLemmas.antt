@@ -98,6 +98,23 @@ pub rising_last : (ns : List ℕ) (v : ℕ) → IsRising ns → AllByRecursion (
 rising_last [] v r h = (tt, tt)
 rising_last (n ∷ ns) v r h = (all_append (λ m. n < m) ns (v ∷ []) r.0 (h.0, tt), rising_last ns v r.1 h.1)
 
+-- a reload that failed, or wanted memory, gave no version
+pub failed_gives_none : (v : ℕ) → outcomes.Failed ≡ outcomes.Version v → ⊥
+failed_gives_none v e = cc
+
+pub memory_gives_none : (v : ℕ) → outcomes.OutOfMemory ≡ outcomes.Version v → ⊥
+memory_gives_none v e = cc
+
+pub memory_is_no_fault : {Fact : Type 0} → outcomes.OutOfMemory ≡ outcomes.Failed → Fact
+memory_is_no_fault e = absurd cc
+
+-- no table is few, and one is
+pub none_is_few : 0 ≤ 1
+none_is_few = omega arith
+
+pub same_count : (count : ℕ) → count ≤ count
+same_count count = omega arith
+
 pub supplies_none : {Data Settings : Type 0} (may : Data → Type 0) (outcome : Reloaded) (old now : Moment Data Settings) (added : List (Given Data)) → ((v : ℕ) → outcome ≢ outcomes.Version v) → took added ≡ [] → now.served ≡ old.served
     → old.supply.left ≡ with_given added now.supply.left → length added ≤ 1 → (outcome ≡ outcomes.Failed → (added ≡ []) × (Rose old.supply.faults now.supply.faults ⊎ (old.served.version ≡ HIGHEST_NUMBER))) → old.supply.faults ≤ now.supply.faults
     → (old.served.version ≢ HIGHEST_NUMBER → now.supply.calls ≡ counted old.supply.calls) → (old.served.version ≡ HIGHEST_NUMBER → now.supply ≡ old.supply) → now.wire ≡ old.wire

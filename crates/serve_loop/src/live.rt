@@ -47,7 +47,7 @@ pub struct Live<C> {
 }
 
 /// What the step of one connection did.
-#[derive(Clone, Copy, Debug, PartialEq, Eq)]
+#[derive(Clone, Copy)]
 pub enum Stepped {
     /// Bytes moved.
     Moved,

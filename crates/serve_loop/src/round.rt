@@ -6,7 +6,7 @@ ghost use Rattle.serve_loop.specs.Rounds.{IsAfter, is_still};
 use crate::live::{Part, SPREAD, Turned};
 
 /// Where a round stands.
-#[derive(Clone, Copy, Debug)]
+#[derive(Clone, Copy)]
 pub struct Round {
     /// The number of the first link that it has not come to.
     pub next: u64,

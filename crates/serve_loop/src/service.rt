@@ -1,5 +1,5 @@
 // A service: turns, and what follows each.
-ghost use Rattle.std.specs.Prelude.{ℕ, ◌≡◌, ◌+◌, ◌-◌, ◌≤◌, ◌<◌, ◌^◌, IfOk, OnOk, OnErr, IfErr, IfSome, None, Some, true, false, ◌↔◌};
+ghost use Rattle.std.specs.Prelude.{ℕ, ◌≡◌, ◌+◌, ◌-◌, ◌≤◌, ◌<◌, ◌^◌, IfOk, OnOk, IfErr, IfSome, None, Some, true, false, ◌↔◌};
 ghost use Rattle.tpf_base.specs.Causes.{counted};
 ghost use Rattle.tpf_base.specs.Links.{listens};
 ghost use Rattle.serve_loop.specs.declared.live.TheConstants.{MOST_LIVE};

@@ -15,7 +15,7 @@ use connections::{Converses, Reloaded, Serves, Supply};
 use tpf_base::{Fault, HIGHEST_NUMBER, Moved, OutOfMemory, Wire};
 
 /// How a receive came out.
-#[derive(Clone, Copy, Debug, PartialEq, Eq)]
+#[derive(Clone, Copy)]
 pub enum Received {
     Fed,
     End,

@@ -6,14 +6,14 @@ use std::io::ErrorKind;
 use tpf_base::{Fault, Moved};
 
 /// Which way bytes go.
-#[derive(Clone, Copy, Debug, PartialEq, Eq)]
+#[derive(Clone, Copy)]
 pub enum Direction {
     Sending,
     Receiving,
 }
 
 /// The account of an open link. Its count stops at 2^64 - 1.
-#[derive(Clone, Copy, Debug)]
+#[derive(Clone, Copy)]
 pub struct Account {
     /// How often a call on the link stalled.
     pub stalls: u64,
@@ -65,7 +65,7 @@ impl Account {
 }
 
 /// The counts of a wire. Each stops at 2^64 - 1.
-#[derive(Clone, Copy, Debug)]
+#[derive(Clone, Copy)]
 pub struct Counts {
     /// How many links were given.
     pub given: u64,

@@ -1,6 +1,5 @@
 // The addresses of a host.
 use std::alloc::Global;
-use std::io;
 use std::io::ErrorKind;
 use std::net::{Net, SocketAddr, ToSocketAddrs};
 

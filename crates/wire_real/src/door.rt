@@ -48,7 +48,7 @@ const ENOBUFS: i32 = 105;
 const EHOSTDOWN: i32 = 112;
 
 /// Why an accept gave no connection.
-#[derive(Clone, Copy, Debug, PartialEq, Eq)]
+#[derive(Clone, Copy)]
 enum Refusal {
     /// None waits.
     NoneWaits,

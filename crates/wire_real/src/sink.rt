@@ -26,7 +26,7 @@ impl Streams for HostRuntime {
     }
 }
 
-#[derive(Clone, Copy, Debug, PartialEq, Eq)]
+#[derive(Clone, Copy)]
 enum Stream {
     Output,
     Errors,

@@ -4,11 +4,13 @@ ghost use Rattle.tpf_base.specs.declared.wire.Moved.TheVariants as answers;
 ghost use Rattle.wire_real.specs.Accounts.{account_after, no_account, MovesWithin};
 
 use crate::account::{Account, Direction};
+use crate::addresses::addresses_of;
 use crate::reading::read_some;
 use libc::net::{SO_KEEPALIVE, SOL_SOCKET, setsockopt};
 use mio::event::Event;
 use mio::net::TcpStream;
 use mio::{Interest, Registry, Token};
+use std::alloc::Global;
 use std::io;
 use std::io::{ErrorKind, Write};
 use std::net::{Net, Shutdown, SocketAddr};
@@ -22,7 +24,7 @@ const PIECE: usize = 8192;
 const PIECES: u32 = 32;
 
 /// What the system said of one direction of a socket.
-#[derive(Clone, Copy, Debug)]
+#[derive(Clone, Copy)]
 struct Readiness {
     /// A call may move bytes. Where this does not hold a call would stall, until an event says more.
     may_move: bool,
@@ -140,7 +142,7 @@ fn connect<R: Net>(
 
 /// Begins to connect to the last of the addresses to which the system lets it, and takes that one
 /// and those behind it off the list.
-pub fn connect_last<R: Net>(
+fn connect_last<R: Net>(
     rt: &R,
     registry: &Registry,
     token: Token,
@@ -184,9 +186,26 @@ impl Connection {
 }
 
 impl Socket {
+    /// Has the system begin to connect a socket to a host at a port.
+    pub fn begin<R: Net>(
+        rt: &R,
+        alloc: Global,
+        registry: &Registry,
+        token: Token,
+        host: &str,
+        port: u16,
+    ) -> Result<Socket, ErrorKind>
+        ensures { IfOk result (λ socket. socket.account ≡ no_account) }
+    {
+        let mut addresses = addresses_of(rt, alloc, host, port)?;
+        addresses.reverse();
+        let stream = connect_last(rt, registry, token, &mut addresses)?;
+        Ok(Socket::dialled(stream, addresses))
+    }
+
     /// A socket that the system is connecting. The addresses are tried where that fails, the last
     /// one first.
-    pub fn dialled(stream: TcpStream, others: Vec<SocketAddr>) -> Socket
+    fn dialled(stream: TcpStream, others: Vec<SocketAddr>) -> Socket
         ensures { result.account ≡ no_account }
     {
         Socket {

@@ -6,9 +6,8 @@ ghost use Rattle.wire_real.specs.Accounts.{no_account, no_counts, MovesWithin, S
 ghost use Rattle.wire_real.specs.Sockets.{accounts, door_at};
 
 use crate::account::Counts;
-use crate::addresses::addresses_of;
 use crate::door::Door;
-use crate::socket::{Socket, connect_last, keep_alive, register};
+use crate::socket::{Socket, keep_alive, register};
 use crate::watch::{DOOR, Watch};
 use mio::Token;
 use mio::net::TcpStream;
@@ -169,11 +168,15 @@ impl<'a, R: Net + Clock + AllocGlobal> NetWire<'a, R> {
         let Some(watch) = &self.watch else {
             return Err(ErrorKind::NotConnected);
         };
-        let mut addresses = addresses_of(self.rt, self.rt.alloc(), host, port)?;
-        addresses.reverse();
         let token = Token(self.counts.given as usize);
-        let stream = connect_last(self.rt, watch.registry(), token, &mut addresses)?;
-        Ok(Socket::dialled(stream, addresses))
+        Socket::begin(
+            self.rt,
+            self.rt.alloc(),
+            watch.registry(),
+            token,
+            host,
+            port,
+        )
     }
 
     /// Accepts the next connection at the door, if one waits.

@@ -1,9 +1,16 @@
 -- Each receive goes on from what came before.
-use Rattle.std.proofs.Common.{refl, sym, ◌∙◌, ap, arith, [], length-take-le}
+use Rattle.std.proofs.Common.{ℕ, ◌≡◌, refl, sym, ◌∙◌, ap, arith, [], length-take-le}
 use Rattle.exchange.proofs.ReceivingLemmas.{received_more, received_lost, received_stop, end_rose, failed_rose, woken_received, longer_by, told_holds, end_not_due, receive_not_due}
 use Rattle.tpf_base.specs.HttpReply.{is_open}
+use Rattle.tpf_base.specs.declared.wire.Moved.TheVariants as answers
 use Rattle.tpf_base.proofs.SendingLemmas.{rose_on, allowed_then}
 use Rattle.exchange.proofs.receiving.receive.Goals as goal
+
+moved_able : (n : ℕ) → answers.Moved n ≡ answers.OutOfMemory → ⊥
+moved_able n e = cc
+
+not_yet_able : answers.NotYet ≡ answers.OutOfMemory → ⊥
+not_yet_able e = cc
 
 pub slice_bounds-read-end : goal.slice_bounds-read-end
 slice_bounds-read-end g c = (c.in-Moved.ensures.receives.moved c.in-Moved.n refl).1
@@ -37,7 +44,7 @@ returns-in-Ok-false-clause-receives g c =
 
 pub returns-in-Ok-false-clause-end_ : goal.returns-in-Ok-false-clause-end_
 returns-in-Ok-false-clause-end_ g c =
-    (c.in-Ok-false.ensures.goes_on ∙ c.in-Ok-false.field-0-test, (c.in-Moved.ensures.receives.moved c.in-Moved.n refl).4, (c.in-Moved.ensures.receives.stalled (λ e. cc)).0)
+    (c.in-Ok-false.ensures.goes_on ∙ c.in-Ok-false.field-0-test, (c.in-Moved.ensures.receives.moved c.in-Moved.n refl).4, (c.in-Moved.ensures.receives.stalled (moved_able c.in-Moved.n)).0)
 
 pub returns-in-Err-clause-receives : goal.returns-in-Err-clause-receives
 returns-in-Err-clause-receives g c = (_, received_lost _ _ _ _ _ _ _ _ _ c.loop-n.invariant.comes c.in-Moved.ensures.receives c.in-Err.ensures.err, λ h. absurd (h refl))
@@ -54,8 +61,8 @@ returns-in-NotYet-clause-receives g c = ([], received_stop _ _ _ _ _ _ _ _ c.loo
 pub returns-in-NotYet-clause-end_ : goal.returns-in-NotYet-clause-end_
 returns-in-NotYet-clause-end_ g c = (
   c.loop-n.invariant.goes_on,
-  (c.in-NotYet.ensures.receives.stalled (λ e. cc)).0,
-  (c.in-NotYet.ensures.receives.stalled (λ e. cc)).1,
+  (c.in-NotYet.ensures.receives.stalled not_yet_able).0,
+  (c.in-NotYet.ensures.receives.stalled not_yet_able).1,
   rose_on _ _ _ c.loop-n.invariant.comes.calls.stalls (c.in-NotYet.ensures.receives.not_yet refl).2,
   woken_received _ _ _ _ _ _ _ c.loop-n.invariant.up c.loop-n.invariant.moved c.loop-n.invariant.still c.in-NotYet.ensures.receives,
 )

@@ -1,28 +1,19 @@
-use Rattle.std.proofs.Common.{◌≡◌, get_or, ap, ◌∙◌}
+use Rattle.std.proofs.Common.{ap, ◌∙◌}
 use Rattle.loop_wire.specs.Held.{Held}
-use Rattle.loop_wire.proofs.Lists.{held_set_new, seen_at, hears_at, send_peer, served_at, served_for, served_put, served_set, there_at}
+use Rattle.loop_wire.proofs.Lists.{held_set_new, seen_at, hears_at, served_at, served_set}
 use Rattle.loop_wire.proofs.links.send.Goals as goal
 
-pub server_of-server-requires : goal.server_of-server-requires
-server_of-server-requires g c = served_at _ _ _ _ _ c.args.links.now c.args.k c.index-links-k.result c.requires.kept c.requires.below
+pub send_on-requires-clause-is_open : goal.send_on-requires-clause-is_open
+send_on-requires-clause-is_open g c = ap (λ (h : Held). h.is_open) (seen_at c.args.links.now c.args.k c.index-links-k.result c.requires.below) ∙ c.requires.is_open
 
-pub send-requires-clause-kept : goal.send-requires-clause-kept
-send-requires-clause-kept g c =
-    let stands = there_at (g.B.Behind.server_of c.args.servers.now) c.args.links.now c.args.k c.index-links-k.result c.index-links-k-2.result c.server_of-server.result.now c.requires.below c.server_of-server.ensures in
-    served_for g.C.Converses.kind g.C.Converses.Suits g.C.Server.Serves.serving g.C.RespondsAt.response_at (g.B.Behind.server_of c.args.servers.now) (get_or c.args.links.now c.args.k c.index-links-k-2.result) c.server_of-server.result.now stands (served_at _ _ _ _ _ c.args.links.now c.args.k c.index-links-k-2.result c.requires.kept c.requires.below)
-
-pub send-requires-clause-is_open : goal.send-requires-clause-is_open
-send-requires-clause-is_open g c = ap (λ (h : Held). h.is_open) (seen_at c.args.links.now c.args.k c.index-links-k-2.result c.requires.below) ∙ c.requires.is_open
+pub send_on-requires-clause-served : goal.send_on-requires-clause-served
+send_on-requires-clause-served g c = served_at _ _ _ _ _ c.args.links.now c.args.k c.index-links-k.result c.requires.kept c.requires.below
 
 pub returns-clause-hears : goal.returns-clause-hears
-returns-clause-hears g c = hears_at _ _ c.index-links-k-2.result _ _ _ _ c.requires.below c.send.ensures.hears
+returns-clause-hears g c = hears_at _ _ c.index-links-k.result _ _ _ _ c.requires.below c.send_on.ensures.hears
 
 pub returns-clause-held : goal.returns-clause-held
 returns-clause-held g c = held_set_new c.args.links.now c.args.k _ c.requires.below
 
 pub returns-clause-kept : goal.returns-clause-kept
-returns-clause-kept g c =
-    let stands = there_at (g.B.Behind.server_of c.args.servers.now) c.args.links.now c.args.k c.index-links-k.result c.index-links-k-2.result c.server_of-server.result.now c.requires.below c.server_of-server.ensures in
-    let same : c.send.new.self.held.peer ≡ (get_or c.args.links.now c.args.k c.index-links-k-2.result).held.peer = ap (λ (h : Held). h.peer) c.send.ensures.hears.left ∙ send_peer c.send.result c.args.front.now (get_or c.args.links.now c.args.k c.index-links-k-2.result).held in
-    served_set _ _ _ _ _ c.args.links.now c.args.k _ c.requires.kept
-    (served_put g.C.Converses.kind g.C.Converses.Suits g.C.Server.Serves.serving g.C.RespondsAt.response_at (g.B.Behind.server_of c.args.servers.now) (get_or c.args.links.now c.args.k c.index-links-k-2.result) c.send.new.self c.server_of-server.result.now stands same c.send.ensures.kept)
+returns-clause-kept g c = served_set _ _ _ _ _ c.args.links.now c.args.k _ c.requires.kept c.send_on.ensures.served

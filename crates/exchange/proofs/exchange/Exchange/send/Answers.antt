@@ -1,18 +1,25 @@
 -- What was sent comes behind what was sent before.
-use Rattle.std.proofs.Common.{refl, sym, ◌∙◌, ap, length}
+use Rattle.std.proofs.Common.{◌≡◌, refl, sym, ◌∙◌, ap, length}
 use Rattle.exchange.proofs.PollLemmas.{send_pending, send_broken, send_failed, send_done, as_result, rose_then, sends_as, front_as, less_as, handed_as}
 use Rattle.tpf_base.specs.HttpReply.{is_open}
+use Rattle.tpf_base.specs.declared.send.Halt.TheVariants as halts
 use Rattle.exchange.proofs.IncomingLemmas.{open_reads_more}
 use Rattle.exchange.proofs.exchange.Exchange.send.Goals as goal
 
+done_able : halts.Done ≡ halts.Failed → ⊥
+done_able e = cc
+
+not_yet_able : halts.NotYet ≡ halts.Failed → ⊥
+not_yet_able e = cc
+
 pub returns-in-Done-clause-answers : goal.returns-in-Done-clause-answers
 returns-in-Done-clause-answers g c = let v = c.as_slice.ensures.value in
-    send_done _ _ _ _ _ _ _ _ _ _ _ _ _ _ _ _ c.self.view_is c.requires.link c.self.invariant.is_request (sends_as _ _ _ _ _ _ _ v (c.in-Done.ensures.sends (λ e. cc)))
+    send_done _ _ _ _ _ _ _ _ _ _ _ _ _ _ _ _ c.self.view_is c.requires.link c.self.invariant.is_request (sends_as _ _ _ _ _ _ _ v (c.in-Done.ensures.sends done_able))
     (c.in-Done.ensures.end_ ∙ ap length v) (λ e. c.in-Done.ensures.still refl e) c.receive_reply.ensures.touches.link c.receive_reply.ensures.touches.calls.idle c.receive_reply.ensures.answers
 
 pub returns-in-NotYet-clause-answers : goal.returns-in-NotYet-clause-answers
 returns-in-NotYet-clause-answers g c = let v = c.as_slice.ensures.value in let n = c.in-NotYet.ensures.end_ in
-    send_pending _ _ _ _ _ _ _ _ _ _ _ _ _ c.self.view_is c.requires.link c.self.invariant.is_request (sends_as _ _ _ _ _ _ _ v (c.in-NotYet.ensures.sends (λ e. cc))) c.requires.is_open
+    send_pending _ _ _ _ _ _ _ _ _ _ _ _ _ c.self.view_is c.requires.link c.self.invariant.is_request (sends_as _ _ _ _ _ _ _ v (c.in-NotYet.ensures.sends not_yet_able)) c.requires.is_open
     (ap (λ x. x.standing) c.self.view_is ∙ c.requires.underway)
     (open_reads_more c.what_is_read_is_given.ensures _ _ (ap is_open (sym c.leads.ensures) ∙ c.self.invariant.goes_on (ap (λ x. x.standing) c.self.view_is ∙ c.requires.underway)))
     (less_as _ _ _ v n.0) n.1 n.2 n.3 n.4

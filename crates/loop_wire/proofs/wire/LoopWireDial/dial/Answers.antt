@@ -1,24 +1,21 @@
-use Rattle.std.proofs.Common.{ℕ, ◌≡◌, true, false, List, length, Some, is_err, refl, ap, sym, ◌∙◌, rules}
+use Rattle.std.proofs.Common.{◌≡◌, true, length, Some, refl, ap, sym, ◌∙◌}
 use Rattle.std.proofs.lemmas.Bool.{both_ways}
 use Rattle.tpf_base.specs.Failures.{CallCounts}
-use Rattle.loop_wire.specs.Held.{Owing, new_link}
+use Rattle.loop_wire.specs.Held.{Owing}
 use Rattle.loop_wire.specs.Standing.{owed_to}
 use Rattle.loop_wire.specs.Looped.{Looped, held_of, steady_in}
 use Rattle.loop_wire.proofs.Lists.{length_held}
 use Rattle.loop_wire.proofs.Calls.{gives_as, every_alone, steady_everywhere}
-use Rattle.loop_wire.proofs.Waits.{pushed, held_push, is_wire_push, some_of}
-use Rattle.loop_wire.proofs.Faults.{due_dialled, due_spared, due_stranger, dial_was_due}
+use Rattle.loop_wire.proofs.Talks.{on_ok, on_err}
+use Rattle.loop_wire.proofs.Wires.{served_along}
+use Rattle.loop_wire.proofs.Faults.{due_dialled, due_spared, due_stranger, dial_was_due, spared, spared_memory}
 use Rattle.loop_wire.proofs.wire.LoopWireDial.dial.Goals as goal
 
 pub invariant_of-self-2 : goal.invariant_of-self-2
-invariant_of-self-2 g c =
-    let fine : is_err c.push.result ≡ false = cc in
-    let more = pushed c.push.result _ _ _ c.push.ensures.items fine in
-    let there = some_of (g.B.Behind.server_of c.self.inside.servers (Some (c.args.host.now, c.args.port))) (sym c.is_there.ensures ∙ c.if-not-is_there.false) in
-    let made : c.new.result ≡ new_link (Some (c.args.host.now, c.args.port)) = c.new.ensures ∙ ap (λ (h : List ℕ). new_link (Some (h, c.args.port))) c.in-Ok.ensures in (
-      is_wire_push _ _ _ _ _ (Some (c.args.host.now, c.args.port)) there.0 _ _ _ _ c.self.invariant.0 more there.1 made refl c.new-2.ensures.opens (c.new-2.ensures.suits there.0),
-      due_spared c.self.inside.failures c.is_next_dial_due.new.self _ _ _ refl c.is_next_dial_due.ensures.counts c.self.invariant.1,
-    )
+invariant_of-self-2 g c = (
+  (on_ok _ c.give.result c.give.ensures.kept (sym c.if-is_err.ensures.value)) (g.B.Behind.server_of c.self.inside.servers) (sym c.is_there.ensures ∙ c.if-not-is_there.false) c.self.invariant.0,
+  due_spared c.self.inside.failures c.is_next_dial_due.new.self _ _ _ refl c.is_next_dial_due.ensures.counts c.self.invariant.1,
+)
 
 pub invariant_of-self : goal.invariant_of-self
 invariant_of-self g c = (
@@ -26,11 +23,11 @@ invariant_of-self g c = (
   due_dialled c.self.inside.failures c.is_next_dial_due.new.self c.fail.new.self c.self.inside.moved _ _ c.self.inside.provoked (sym c.is_next_dial_due.ensures.due ∙ c.if-is_next_dial_due.true) refl c.is_next_dial_due.ensures.counts c.fail.ensures.counts c.self.invariant.1,
 )
 
-pub invariant_of-self-in_default : goal.invariant_of-self-in_default
-invariant_of-self-in_default g c = (c.self.invariant.0, due_spared c.self.inside.failures c.is_next_dial_due.new.self _ _ _ refl c.is_next_dial_due.ensures.counts c.self.invariant.1)
-
 pub invariant_of-self-then-is_err : goal.invariant_of-self-then-is_err
-invariant_of-self-then-is_err g c = (search rules, due_spared c.self.inside.failures c.is_next_dial_due.new.self _ _ _ refl c.is_next_dial_due.ensures.counts c.self.invariant.1)
+invariant_of-self-then-is_err g c = (
+  served_along _ _ _ _ _ _ _ (on_err _ c.give.result c.give.ensures.err (sym c.if-is_err.ensures.value)) c.self.invariant.0,
+  due_spared c.self.inside.failures c.is_next_dial_due.new.self _ _ _ refl c.is_next_dial_due.ensures.counts c.self.invariant.1,
+)
 
 pub returns-then-is_next_dial_due-clause-steady : goal.returns-then-is_next_dial_due-clause-steady
 returns-then-is_next_dial_due-clause-steady g c = λ steady. rw (← c.self.view_is) (record {
@@ -41,22 +38,19 @@ returns-then-is_next_dial_due-clause-steady g c = λ steady. rw (← c.self.view
 pub returns-then-is_err-clause-steady : goal.returns-then-is_err-clause-steady
 returns-then-is_err-clause-steady g c = λ steady. rw (← c.self.view_is) (record {
   unprovoked = λ few. refl;
-  not_due = λ few e every free. record { same = ap (λ (n : CallCounts). n.faults) c.is_next_dial_due.ensures.counts; answer = λ f. absurd cc };
+  not_due = λ few e every free. spared_memory _ _ (ap (λ (n : CallCounts). n.faults) c.is_next_dial_due.ensures.counts);
 })
 
 pub returns-clause-ok : goal.returns-clause-ok
 returns-clause-ok g c =
     let owes : Owing = owed_to g.C.RespondsAt.response_at g.C.Server.Serves.serving g.B.Behind.server_of c.self.inside.servers in
-    let fine : is_err c.push.result ≡ false = cc in
-    let more = pushed c.push.result _ _ _ c.push.ensures.items fine in
     let first : c.len-number.result ≡ length (held_of c.self.inside.links.items) = c.len-number.ensures ∙ c.self.inside.links.ok.0 ∙ sym (length_held c.self.inside.links.items) in
-    let made : c.new.result ≡ new_link (Some (c.args.host.now, c.args.port)) = c.new.ensures ∙ ap (λ (h : List ℕ). new_link (Some (h, c.args.port))) c.in-Ok.ensures in
-    rw (← c.self.view_is) (gives_as g.B.Behind.everywhere owes (Some (c.args.host.now, c.args.port)) c.len-number.result (held_of c.self.inside.links.items) _ c.self.inside.failures c.is_next_dial_due.new.self _ _ _ first (held_push _ _ _ _ more made))
+    rw (← c.self.view_is) (gives_as g.B.Behind.everywhere owes (Some (c.args.host.now, c.args.port)) c.len-number.result (held_of c.self.inside.links.items) _ c.self.inside.failures c.is_next_dial_due.new.self _ _ _ first (on_ok _ c.give.result c.give.ensures.held (sym c.if-is_err.ensures.value)))
 
 pub returns-clause-steady : goal.returns-clause-steady
 returns-clause-steady g c = λ steady. rw (← c.self.view_is) (record {
   unprovoked = λ few. refl;
-  not_due = λ few e every free. record { same = ap (λ (n : CallCounts). n.faults) c.is_next_dial_due.ensures.counts; answer = λ f. absurd cc };
+  not_due = λ few e every free. spared _ _ _ (ap (λ (n : CallCounts). n.faults) c.is_next_dial_due.ensures.counts);
 })
 
 pub invariant_of-self-then-not-is_there : goal.invariant_of-self-then-not-is_there

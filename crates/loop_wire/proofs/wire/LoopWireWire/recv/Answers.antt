@@ -1,9 +1,9 @@
-use Rattle.std.proofs.Common.{◌≡◌, ◌<◌, length, get_or, ap, sym, ◌∙◌, arith}
+use Rattle.std.proofs.Common.{◌≡◌, ◌<◌, length, get_or, refl, ap, sym, ◌∙◌}
 use Rattle.tpf_base.specs.Failures.{CallCounts}
 use Rattle.loop_wire.specs.Held.{Held, Owing, no_link, settled}
 use Rattle.loop_wire.specs.Standing.{owed_to}
 use Rattle.loop_wire.specs.Looped.{held_of}
-use Rattle.loop_wire.proofs.Lists.{length_held, held_at, is_held_at}
+use Rattle.loop_wire.proofs.Lists.{held_at, is_held_at}
 use Rattle.loop_wire.proofs.Calls.{never_due, receives_due, receives_as}
 use Rattle.loop_wire.proofs.Wires.{open_seen, below_seen, slice_open, slice_below, is_wire_put, held_put_by, held_put, gives_along, served_along, counts_failed, counts_fine, some_room, awake_as, ripe_short}
 use Rattle.loop_wire.proofs.Faults.{due_same, due_unsteady}
@@ -42,7 +42,7 @@ pub returns-clause-receives : goal.returns-clause-receives
 returns-clause-receives g c =
     let owes : Owing = owed_to g.C.RespondsAt.response_at g.C.Server.Serves.serving g.B.Behind.server_of c.self.inside.servers in
     let below : c.args.link < length (held_of c.self.inside.links.items) = below_seen _ _ c.args.link c.self.view_is c.requires.is_open in
-    let within : c.args.link < length c.self.inside.links.items = omega (arith, below, length_held c.self.inside.links.items) in
+    let within : c.args.link < length c.self.inside.links.items = slice_below c.self.inside.links.items _ _ refl below in
     let held = is_held_at _ _ _ _ _ _ _ c.self.invariant.0 below in
     let up : (get_or (held_of c.self.inside.links.items) c.args.link no_link).woken ≡ c.is_woken.result = ap (λ (h : Held). h.woken) (held_at c.self.inside.links.items c.args.link c.index.result.now within c.index.ensures) ∙ sym c.is_woken.ensures in
     rw (← c.self.view_is) (receives_as g.B.Behind.everywhere owes c.args.link (held_of c.self.inside.links.items) _ c.self.inside.failures c.is_next_due.new.self _ _ _ c.room-most.result _ c.stalls-stalling.result c.receive-answer.result (get_or (held_of c.receive-answer.new.links) c.args.link no_link) _ below

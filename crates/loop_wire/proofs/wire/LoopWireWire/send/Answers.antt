@@ -1,11 +1,11 @@
-use Rattle.std.proofs.Common.{◌≡◌, ◌<◌, ◌≤◌, true, false, length, take, get_or, refl, ap, sym, ◌∙◌, arith}
+use Rattle.std.proofs.Common.{◌≡◌, ◌<◌, ◌≤◌, true, false, length, take, get_or, refl, ap, sym, ◌∙◌}
 use Rattle.tpf_base.specs.Failures.{CallCounts}
 use Rattle.loop_wire.specs.Held.{Held, Owing, no_link, settled}
 use Rattle.loop_wire.specs.Standing.{owed_to}
 use Rattle.loop_wire.specs.Looped.{held_of}
-use Rattle.loop_wire.proofs.Lists.{length_held, held_at, is_held_at, owed_lasts}
+use Rattle.loop_wire.proofs.Lists.{held_at, is_held_at, owed_lasts}
 use Rattle.loop_wire.proofs.Calls.{never_due, sends_due, sends_as}
-use Rattle.loop_wire.proofs.Wires.{open_seen, below_seen, slice_open, slice_below, is_wire_put, held_put_by, held_put, hears_along, served_along, counts_failed, counts_fine, some_room, asleep_as}
+use Rattle.loop_wire.proofs.Wires.{open_seen, below_seen, slice_open, slice_below, is_wire_put, held_put_by, held_put, hears_along, served_along, counts_failed, counts_fine, some_room, few_within, some_within, asleep_as}
 use Rattle.loop_wire.proofs.Faults.{due_same, due_unsteady}
 use Rattle.loop_wire.proofs.wire.LoopWireWire.send.Goals as goal
 
@@ -42,9 +42,9 @@ pub returns-clause-sends : goal.returns-clause-sends
 returns-clause-sends g c =
     let owes : Owing = owed_to g.C.RespondsAt.response_at g.C.Server.Serves.serving g.B.Behind.server_of c.self.inside.servers in
     let below : c.args.link < length (held_of c.self.inside.links.items) = below_seen _ _ c.args.link c.self.view_is c.requires.is_open in
-    let within : c.args.link < length c.self.inside.links.items = omega (arith, below, length_held c.self.inside.links.items) in
-    let few : c.room-n.result ≤ length c.args.piece.now = omega (arith, c.room-n.ensures.within, c.min-most.ensures) in
-    let there : 0 < c.min-most.result = omega (arith, c.cut.ensures.least, c.requires.some, c.min-most.ensures) in
+    let within : c.args.link < length c.self.inside.links.items = slice_below c.self.inside.links.items _ _ refl below in
+    let few : c.room-n.result ≤ length c.args.piece.now = few_within _ _ _ _ c.room-n.ensures.within c.min-most.ensures in
+    let there : 0 < c.min-most.result = some_within _ _ _ c.cut.ensures.least c.requires.some c.min-most.ensures in
     let some : 0 < c.room-n.result = some_room c.self.inside.failures.failing c.is_next_due.new.self.failing _ _ _ (ap (λ (n : CallCounts). n.failing) c.is_next_due.ensures.counts) c.room-n.ensures.value (c.is_next_due.ensures.some c.if-is_next_due.false _ there) in
     let asleep : c.stalls-stalling.result ≡ true → (get_or (held_of c.self.inside.links.items) c.args.link no_link).woken ≡ false = λ up. ap (λ (h : Held). h.woken) (held_at c.self.inside.links.items c.args.link c.index.result.now within c.index.ensures) ∙ sym c.is_woken.ensures ∙ asleep_as _ _ _ c.stalls-stalling.ensures.value up in
     let longer = owed_lasts g.C.Server.Serves.serving g.C.RespondsAt.response_at g.C.RespondsAt.lasts (g.B.Behind.server_of c.self.inside.servers (get_or (held_of c.self.inside.links.items) c.args.link no_link).peer) (get_or (held_of c.self.inside.links.items) c.args.link no_link).sent (take c.room-n.result c.args.piece.now) in

@@ -1,9 +1,9 @@
-use Rattle.std.proofs.Common.{◌<◌, true, length, ap, arith}
+use Rattle.std.proofs.Common.{◌<◌, true, length}
 use Rattle.loop_wire.specs.Held.{Owing, woken_now}
 use Rattle.loop_wire.specs.Standing.{owed_to}
 use Rattle.loop_wire.specs.Looped.{held_of}
-use Rattle.loop_wire.proofs.Lists.{length_held, is_held_at}
-use Rattle.loop_wire.proofs.Wires.{is_wire_put, held_put_by, counts_fine}
+use Rattle.loop_wire.proofs.Lists.{is_held_at}
+use Rattle.loop_wire.proofs.Wires.{is_wire_put, held_below, held_put_by, counts_fine}
 use Rattle.loop_wire.proofs.Waits.{wakes_as, waits_found, waits_none, none_along, ripe_along}
 use Rattle.loop_wire.proofs.Faults.{due_same, due_provoked}
 use Rattle.loop_wire.proofs.wire.LoopWireWire.wait.Goals as goal
@@ -23,7 +23,7 @@ invariant_of-self-in_default g c = (
 pub returns-clause-ok : goal.returns-clause-ok
 returns-clause-ok g c =
     let owes : Owing = owed_to g.C.RespondsAt.response_at g.C.Server.Serves.serving g.B.Behind.server_of c.self.inside.servers in
-    let below : c.in-Some.k < length (held_of c.self.inside.links.items) = omega (arith, c.in-Some.ensures.found.0, ap length c.deref.ensures.value, length_held c.self.inside.links.items) in
+    let below : c.in-Some.k < length (held_of c.self.inside.links.items) = held_below c.self.inside.links.items _ _ c.deref.ensures.value c.in-Some.ensures.found.0 in
     rw (← c.self.view_is) (wakes_as g.B.Behind.everywhere owes c.in-Some.k (held_of c.self.inside.links.items) _ c.self.inside.failures c.is_next_due.new.self c.self.inside.provoked c.self.inside.waits c.count.new.self c.self.inside.woke below
     (ripe_along c.self.inside.links.items c.deref.result.now c.in-Some.k c.deref.ensures.value c.in-Some.ensures.found.1)
     (is_held_at _ _ _ _ _ _ _ c.self.invariant.0 below)
@@ -39,7 +39,7 @@ returns-in_default-clause-steady g c = λ steady.
 pub returns-clause-steady : goal.returns-clause-steady
 returns-clause-steady g c = λ steady.
     let owes : Owing = owed_to g.C.RespondsAt.response_at g.C.Server.Serves.serving g.B.Behind.server_of c.self.inside.servers in
-    let below : c.in-Some.k < length (held_of c.self.inside.links.items) = omega (arith, c.in-Some.ensures.found.0, ap length c.deref.ensures.value, length_held c.self.inside.links.items) in
+    let below : c.in-Some.k < length (held_of c.self.inside.links.items) = held_below c.self.inside.links.items _ _ c.deref.ensures.value c.in-Some.ensures.found.0 in
     rw (← c.self.view_is) (waits_found g.B.Behind.everywhere owes c.in-Some.k (held_of c.self.inside.links.items) _ c.self.inside.failures c.is_next_due.new.self c.self.inside.provoked c.self.inside.waits c.count.new.self c.self.inside.woke true
     (ripe_along c.self.inside.links.items c.deref.result.now c.in-Some.k c.deref.ensures.value c.in-Some.ensures.found.1)
     (is_held_at _ _ _ _ _ _ _ c.self.invariant.0 below) (counts_fine c.self.inside.failures c.is_next_due.new.self _ c.is_next_due.ensures.counts).faults)
