@@ -12,14 +12,14 @@ use std::alloc::{AllocError, Global};
 use tpf_base::OutOfMemory;
 
 /// Why words were refused.
-#[derive(Clone, Copy, Debug, PartialEq, Eq)]
+#[derive(Clone, Copy, PartialEq, Eq)]
 enum WordsFault {
     Usage,
     OutOfMemory,
 }
 
 /// What an argument is: one by its place, `--name value` or `--name`.
-#[derive(Clone, Copy, Debug, PartialEq, Eq)]
+#[derive(Clone, Copy, PartialEq, Eq)]
 enum Role {
     Positional,
     Option,

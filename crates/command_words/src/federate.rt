@@ -1,5 +1,5 @@
 // The words of a query over several servers.
-ghost use Rattle.std.specs.Prelude.{◌≡◌, ◌&&◌, ◌≤◌, IfOk, option_map, length, nat_le};
+ghost use Rattle.std.specs.Prelude.{◌≡◌, IfOk, option_map};
 ghost use Rattle.std.specs.List.{list_any};
 ghost use Rattle.command_words.specs.Apps.{found_in};
 ghost use Rattle.command_words.specs.Forms.{texts};

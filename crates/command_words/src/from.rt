@@ -264,7 +264,7 @@ static SERVE_OPTIONS: [&str; 5] = ["base", "page", "graph", "stop-after", "reloa
 static MAKE_OPTIONS: [&str; 1] = ["run"];
 
 /// A command of the program.
-#[derive(Clone, Copy, Debug, PartialEq, Eq)]
+#[derive(Clone, Copy, PartialEq, Eq)]
 enum Name {
     Local,
     Query,

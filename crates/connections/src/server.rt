@@ -1,5 +1,5 @@
 // A server of numbered versions of data.
-ghost use Rattle.std.specs.Prelude.{ℕ, ◌≡◌, ◌+◌, ◌<◌, ◌≤◌, IfOk, OnErr};
+ghost use Rattle.std.specs.Prelude.{◌≡◌, ◌+◌, ◌<◌, ◌≤◌, IfOk, OnErr};
 ghost use Rattle.tpf_base.specs.declared.limits.TheConstants.{HIGHEST_NUMBER};
 ghost use Rattle.connections.specs.Versions.{Serving};
 

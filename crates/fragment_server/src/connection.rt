@@ -1,6 +1,5 @@
 // A connection of a server of fragments, as one that a loop serves.
-ghost use Rattle.std.specs.Prelude.{◌≡◌, ◌≤◌, true, false, length, OnOk};
-ghost use Rattle.connections.specs.Kinds.{Feeds, Fills, IsOutcome, Opens, Reloads, Takes};
+ghost use Rattle.std.specs.Prelude.{◌≡◌};
 ghost use Rattle.fragment_server.specs.Fragments.{fragments, outcome_of};
 
 use crate::FragmentServer;

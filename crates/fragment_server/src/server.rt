@@ -1,5 +1,5 @@
 // A server of fragments, as one of numbered versions of data.
-ghost use Rattle.std.specs.Prelude.{◌≡◌, ◌≤◌, ◌<◌, ◌+◌};
+ghost use Rattle.std.specs.Prelude.{◌≡◌, ◌≤◌, ◌<◌};
 
 use crate::DataSet;
 use connections::Serves;

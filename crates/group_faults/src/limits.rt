@@ -13,7 +13,7 @@ use query_words::word::{Value, Word};
 pub const MOST_OPEN: usize = 32;
 
 /// A walk over the runs of tokens between signs.
-#[derive(Debug, Drop)]
+#[derive(Drop)]
 struct Walk {
     /// Where the run begins.
     from: usize,

@@ -3,7 +3,7 @@
 //
 // The steps of the empty group are written last: a Join with it is its other side. So the walk knows of each
 // group that is open whether it is empty so far, and writes `Empty` where UNION or OPTIONAL needs it.
-ghost use Rattle.std.specs.Prelude.{◌≡◌, ◌<◌, ◌≤◌, ◌+◌, ◌-◌, ◌^◌, [], length, IfOk, OnOk};
+ghost use Rattle.std.specs.Prelude.{◌≡◌, ◌<◌, ◌≤◌, ◌+◌, ◌-◌, ◌^◌, length, IfOk, OnOk};
 ghost use Rattle.pattern_parser.specs.Prefixes.{iris};
 ghost use Rattle.pattern_parser.specs.Numbers.{AreNumbered};
 ghost use Rattle.pattern_parser.specs.Items.{names_after};
@@ -19,7 +19,7 @@ use std::marker::Model;
 use text_base::OutOfMemory;
 
 /// What a brace opens: a part of its own, or the group of OPTIONAL or UNION.
-#[derive(Clone, Copy, Debug, PartialEq, Eq)]
+#[derive(Clone, Copy, PartialEq, Eq)]
 pub enum Opener {
     Part,
     Optional,
@@ -28,7 +28,7 @@ pub enum Opener {
 
 /// The groups of a part, to which UNION may add one: none; one that is empty, of which no step is written
 /// yet; or groups whose steps are written.
-#[derive(Clone, Copy, Debug, PartialEq, Eq)]
+#[derive(Clone, Copy, PartialEq, Eq)]
 pub enum Pending {
     Nothing,
     Empty,
@@ -54,7 +54,7 @@ fn pending_by(is_empty: bool) -> Pending
 
 /// A group that is open around another: whether nothing stood in it before, and what the brace behind that
 /// opened.
-#[derive(Clone, Copy, Debug, PartialEq, Eq)]
+#[derive(Clone, Copy, PartialEq, Eq)]
 pub struct Frame {
     pub is_empty: bool,
     pub opener: Opener,

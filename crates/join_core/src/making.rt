@@ -19,7 +19,7 @@ use tpf_base::OutOfMemory;
 
 /// What a page makes of a node: nodes that it opens, rows that it puts out, and the node after it,
 /// if it goes on.
-#[derive(Debug, Drop)]
+#[derive(Drop)]
 pub(crate) struct Made {
     pub(crate) opened: Vec<Opening>,
     pub(crate) rows: Vec<Row>,

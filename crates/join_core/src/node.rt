@@ -25,7 +25,7 @@ use std::rc::Rc;
 use tpf_base::OutOfMemory;
 
 /// A walk over the pages of the chosen pattern.
-#[derive(Debug, Drop)]
+#[derive(Drop)]
 pub(crate) struct Walk {
     pub(crate) chosen: Rc<Pattern>,
     pub(crate) pages: u64,
@@ -34,7 +34,7 @@ pub(crate) struct Walk {
 
 /// What a node does: it asks for the first pages of its patterns, or walks over the pages of the
 /// chosen one.
-#[derive(Debug, Drop)]
+#[derive(Drop)]
 pub(crate) enum Progress {
     Asks(Vec<First>),
     Walks(Walk),
@@ -42,14 +42,14 @@ pub(crate) enum Progress {
 
 /// What a node waits for under a ticket: the first page of a pattern, by its place, or the next
 /// page.
-#[derive(Clone, Copy, Debug, Drop)]
+#[derive(Clone, Copy, Drop)]
 pub(crate) enum Waits {
     First(usize),
     Next,
 }
 
 /// A block of rows with the patterns that are still to be matched.
-#[derive(Debug, Drop)]
+#[derive(Drop)]
 pub(crate) struct Node {
     rows: RowBlock,
     rest: Rc<PatternList>,

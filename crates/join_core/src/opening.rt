@@ -16,7 +16,7 @@ use tpf_base::OutOfMemory;
 
 /// A node that was not started: a block of rows, and the patterns that are still to be matched,
 /// which all such nodes of a page share.
-#[derive(Debug, Drop)]
+#[derive(Drop)]
 pub(crate) struct Opening {
     rows: RowBlock,
     rest: Rc<PatternList>,

@@ -1,5 +1,5 @@
 // The terms and names of a query, with the marks between them.
-ghost use Rattle.std.specs.Prelude.{◌≡◌, ◌<◌, ◌≤◌, ◌+◌, ◌-◌, ◌^◌, ◌++◌, ◌∷◌, ℕ, List, length, codes, OnOk, IfOk, option_copied};
+ghost use Rattle.std.specs.Prelude.{◌≡◌, ◌<◌, ◌≤◌, ◌+◌, ◌-◌, ◌^◌, ◌++◌, ◌∷◌, length, OnOk, IfOk, option_copied};
 ghost use Rattle.pattern_parser.specs.Names.{with_name, name_text};
 ghost use Rattle.pattern_parser.specs.Numbers.{AreNumbered};
 ghost use Rattle.pattern_parser.specs.Prefixes.{iri_text, iris};
@@ -14,7 +14,7 @@ use std::alloc::Global;
 use text_base::{OutOfMemory, Text};
 
 /// A term or name with the place of its first token, or a mark.
-#[derive(Debug, Drop)]
+#[derive(Drop)]
 pub enum Item {
     Part(Part, usize),
     Dot,

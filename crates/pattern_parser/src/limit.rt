@@ -13,7 +13,7 @@ use query_words::word::{Value, Word};
 pub const MOST_PATTERNS: usize = 64;
 
 /// What a token is in a block.
-#[derive(Clone, Copy, Debug, PartialEq, Eq)]
+#[derive(Clone, Copy, PartialEq, Eq)]
 pub enum Role {
     /// A term or name.
     Part,
@@ -23,7 +23,7 @@ pub enum Role {
 }
 
 /// Which part of a triple pattern the next term or name is.
-#[derive(Clone, Copy, Debug, PartialEq, Eq)]
+#[derive(Clone, Copy, PartialEq, Eq)]
 pub enum Next {
     Subject,
     Verb,
@@ -31,7 +31,7 @@ pub enum Next {
 }
 
 /// A walk over the tokens of a block.
-#[derive(Debug, Drop)]
+#[derive(Drop)]
 struct Walk {
     next: Next,
     /// How many more patterns there may be.

@@ -1,5 +1,5 @@
 // Where the parts of a query begin, and which names are selected.
-ghost use Rattle.std.specs.Prelude.{◌≡◌, ◌<◌, ◌≤◌, ◌^◌, ℕ, length, IfOk, IsTrue, IsFalse};
+ghost use Rattle.std.specs.Prelude.{◌≡◌, ◌<◌, ◌≤◌, ◌^◌, length, IfOk, IsTrue, IsFalse};
 ghost use Rattle.query_grammar.specs.Groups.{ArePlain};
 ghost use Rattle.query_words.specs.Words.{kinds_of};
 ghost use Rattle.pattern_parser.specs.Names.{is_blank_name, variable_numbers};

@@ -1,5 +1,5 @@
 // Escapes in IRIs and strings.
-ghost use Rattle.std.specs.Prelude.{◌≡◌, ◌≤◌, ◌<◌, ℕ, List, length, take, MatchOption};
+ghost use Rattle.std.specs.Prelude.{◌≡◌, ◌≤◌, ◌<◌, take};
 ghost use Rattle.std.specs.Char.{is_ascii_hexdigit};
 ghost use Rattle.std.specs.List.{list_all};
 ghost use Rattle.query_tokens.specs.Escapes.{hex_digit, hex_after, is_scalar, is_iri_char, may_stand, is_numeric, character_of, is_escape, good_escapes, has_good_escapes};

@@ -1,9 +1,9 @@
 // The pieces of a text.
-ghost use Rattle.std.specs.Prelude.{◌≡◌, ℕ, ◌≤◌, ◌*◌, List, length, drop, take, All, ◌++◌, ◌+◌, ◌<◌, IfOk, OnOk, IsErrOf, MatchOption, [], ◌∷◌, if◌then◌else◌};
+ghost use Rattle.std.specs.Prelude.{◌≡◌, ℕ, ◌≤◌, ◌*◌, length, drop, All, ◌++◌, ◌+◌, ◌<◌, IfOk, OnOk, IsErrOf, MatchOption, [], ◌∷◌, if◌then◌else◌};
 ghost use Rattle.std.specs.Str.{encode_utf8_all};
 ghost use Rattle.query_tokens.specs.Names.{IsRun};
 ghost use Rattle.query_tokens.specs.Escapes.{IsPiece, NoPiece};
-ghost use Rattle.query_tokens.specs.Pieces.{is_gap, byte_place, placed_one, Fits, AreTokens, IsTokenFault};
+ghost use Rattle.query_tokens.specs.Pieces.{is_gap, byte_place, Fits, AreTokens, IsTokenFault};
 
 use crate::ahead::Run;
 use crate::escape::has_good_escapes;

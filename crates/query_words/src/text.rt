@@ -1,8 +1,8 @@
 // The texts inside tokens.
-ghost use Rattle.std.specs.Prelude.{◌≡◌, ℕ, ◌+◌, ◌≤◌, ◌<◌, List, length, drop, take, IfOk, codes};
+ghost use Rattle.std.specs.Prelude.{◌≡◌, ◌+◌, ◌≤◌, ◌<◌, length, drop, IfOk, codes};
 ghost use Rattle.std.specs.Str.{encode_utf8_all, bytes_eq, chars};
 ghost use Rattle.query_tokens.specs.declared.piece.TheConstants.{LONGEST_QUERY};
-ghost use Rattle.query_tokens.specs.Escapes.{resolved, resolved_after, escape_value, escape_length, character_or};
+ghost use Rattle.query_tokens.specs.Escapes.{resolved, escape_value, escape_length, character_or};
 ghost use Rattle.query_words.specs.Texts.{same_word, inside, colon, unescaped, resolved_text, prefix_text, local_text};
 
 use query_tokens::escape::{character_of, first_chars, hex_value};

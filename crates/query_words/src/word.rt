@@ -1,5 +1,5 @@
 // The tokens of a query, each with what it says.
-ghost use Rattle.std.specs.Prelude.{◌≡◌, ◌≤◌, List, length, take, drop, IfOk, All};
+ghost use Rattle.std.specs.Prelude.{◌≡◌, ◌≤◌, length, IfOk, All};
 ghost use Rattle.query_tokens.specs.declared.piece.TheConstants.{LONGEST_QUERY};
 ghost use Rattle.query_tokens.specs.Pieces.{Fits};
 ghost use Rattle.query_words.specs.Words.{word_value, value_of, word_of, words_of, kind_of, kinds_of};

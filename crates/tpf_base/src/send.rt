@@ -1,5 +1,5 @@
 // Sending bytes on an open link, with as many calls as that takes.
-ghost use Rattle.std.specs.Prelude.{ℕ, ◌≡◌, ◌≢◌, ◌≤◌, length, true};
+ghost use Rattle.std.specs.Prelude.{◌≡◌, ◌≢◌, ◌≤◌, length, true};
 ghost use Rattle.tpf_base.specs.Links.{SameAllowed};
 ghost use Rattle.tpf_base.specs.Sending.{FrontSent, SendsFrom, SendsEnd};
 

@@ -1,5 +1,5 @@
 // A place to write to.
-ghost use Rattle.std.specs.Prelude.{ℕ, ◌<◌, length};
+ghost use Rattle.std.specs.Prelude.{◌<◌, length};
 ghost use Rattle.tpf_base.specs.Wrote.{SinkState, WritesPiece, WritesWhole};
 
 use crate::Fault;

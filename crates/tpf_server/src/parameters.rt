@@ -16,7 +16,7 @@ use template_fill::{ValueFault, read_explicit};
 use tpf_base::{OutOfMemory, Text};
 
 /// The values of a name: none, one, or more than one.
-#[derive(Debug, Drop)]
+#[derive(Drop)]
 pub enum Values {
     Absent,
     One(Text),
@@ -24,7 +24,7 @@ pub enum Values {
 }
 
 /// The values of the names that ask for a page. There are no rows where they are passed over.
-#[derive(Debug, Drop)]
+#[derive(Drop)]
 pub struct Parameters {
     pub subject: Values,
     pub predicate: Values,
@@ -34,7 +34,7 @@ pub struct Parameters {
 }
 
 /// A number of a page as parameters give it.
-#[derive(Clone, Copy, PartialEq, Eq, Debug)]
+#[derive(Clone, Copy, PartialEq, Eq)]
 pub enum PageNumber {
     Number(u64),
     /// A number that 64 bits do not hold.

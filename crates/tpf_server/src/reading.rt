@@ -3,7 +3,7 @@ ghost use Rattle.std.specs.Prelude.{◌≡◌};
 ghost use Rattle.tpf_server.specs.Reading.{is_ended, waits, when_starved};
 
 /// What becomes of the heads that come next.
-#[derive(Clone, Copy, Debug)]
+#[derive(Clone, Copy)]
 pub enum Reading {
     /// They are read as they come.
     Reads,
@@ -15,7 +15,7 @@ pub enum Reading {
 }
 
 /// What was read of the bytes that came.
-#[derive(Clone, Copy, Debug)]
+#[derive(Clone, Copy)]
 pub enum HeadRead {
     /// No whole head stands next.
     Nothing,

@@ -12,7 +12,7 @@ use template_fill::read_row;
 use tpf_base::OutOfMemory;
 
 /// Rows in the order of the request; none of their places is a blank node. Contracts see them as the list.
-#[derive(Debug, Drop)]
+#[derive(Drop)]
 pub struct Rows {
     rows: Vec<Slots>,
 }
@@ -65,7 +65,7 @@ impl Rows {
 }
 
 /// The rows that were given, or that they are too many or one of the values is no row.
-#[derive(Debug, Drop)]
+#[derive(Drop)]
 pub enum RowValues {
     Read(Rows),
     Refused,
