@@ -127,7 +127,7 @@ fn compared(alloc: Global, texts: &str) -> Result<(bool, usize), Fail> {
 }
 
 /// The texts of a pattern, and how many triples its fragment has.
-const FRAGMENTS: [(&str, usize); 10] = [
+static FRAGMENTS: [(&str, usize); 10] = [
     (",,", 6),
     ("http://e/a,,", 3),
     (",http://e/k,", 4),
@@ -146,10 +146,14 @@ fn is_found<R: Abort + AllocGlobal>(rt: &R, texts: &str, count: usize) -> Result
     Ok(())
 }
 
-#[test]
-fn pages_of_every_kind_are_fragments_found_the_plain_way(rt: HostRuntime) -> Result<(), Fail> {
-    for (texts, count) in FRAGMENTS {
-        is_found(&rt, texts, count)?;
+fn are_found<R: Abort + AllocGlobal>(rt: &R, fragments: &[(&str, usize)]) -> Result<(), Fail> {
+    for (texts, count) in fragments {
+        is_found(rt, texts, *count)?;
     }
     Ok(())
+}
+
+#[test]
+fn pages_of_every_kind_are_fragments_found_the_plain_way(rt: HostRuntime) -> Result<(), Fail> {
+    are_found(&rt, &FRAGMENTS)
 }

@@ -190,9 +190,11 @@ fn compared(
     compare::<Brand>(alloc, table, slots, rows, Blank::new(1))
 }
 
-/// How many objects and subjects the rows are of, and how many triples and pages that leaves: rows of one kind and of
-/// two, many triples and few.
-const LEFT: [(u32, u32, usize, u64); 5] = [
+/// How many objects and subjects the rows are of, and how many triples and pages that leaves.
+type Left = (u32, u32, usize, u64);
+
+/// Rows of one kind and of two, many triples and few.
+static LEFT: [Left; 5] = [
     (64, 0, 5440, 6),
     (60, 4, 5100, 6),
     (10, 54, 894, 1),
@@ -201,20 +203,16 @@ const LEFT: [(u32, u32, usize, u64); 5] = [
 ];
 
 /// Whether the rows of so many objects and subjects leave so many triples on so many pages.
-fn shows(
-    alloc: Global,
-    table: &Table,
-    slots: &Slots,
-    (objects, subjects, count, pages): (u32, u32, usize, u64),
-) -> Result<bool, Fail> {
+fn shows(alloc: Global, table: &Table, slots: &Slots, left: &Left) -> Result<bool, Fail> {
+    let (objects, subjects, count, pages) = *left;
     let most = MOST_ROWS as u32;
     let rows = rows_of(alloc, objects.min(most), subjects.min(most))?;
     let found = compared(alloc, table, slots, &rows)?;
     Ok(found == (true, count, pages))
 }
 
-fn show_all(alloc: Global, table: &Table, slots: &Slots) -> Result<bool, Fail> {
-    for left in LEFT {
+fn show_all(alloc: Global, table: &Table, slots: &Slots, rows: &[Left]) -> Result<bool, Fail> {
+    for left in rows {
         if !shows(alloc, table, slots, left)? {
             return Ok(false);
         }
@@ -225,7 +223,7 @@ fn show_all(alloc: Global, table: &Table, slots: &Slots) -> Result<bool, Fail> {
 /// The same of the slots of these texts.
 fn show_texts(alloc: Global, table: &Table, texts: &str) -> Result<bool, Fail> {
     let slots = slots(alloc, texts)?;
-    show_all(alloc, table, &slots)
+    show_all(alloc, table, &slots, &LEFT)
 }
 
 fn show_both(alloc: Global, table: &Table) -> Result<bool, Fail> {
