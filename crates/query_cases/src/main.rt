@@ -1,8 +1,12 @@
-//! Cases of queries: their tokens, words, grammar, patterns and groups. The rows stand in `data/`.
+//! Cases of queries: their tokens, words, grammar, patterns and groups, the solutions of a basic graph pattern, and how the
+//! rows of blocks are put together: Join, LeftJoin, Union and Distinct. The rows stand in `data/`.
 #![tactic(auto)]
 
+mod answers;
 mod groups;
 mod queries;
+mod rows;
+mod solved;
 mod words;
 
 use case_rows::{Answers, Case, CaseFault, run};
@@ -10,9 +14,9 @@ use std::alloc::Global;
 use std::process::ExitCode;
 
 /// The calls that rows name.
-struct Readers;
+struct Queries;
 
-impl Answers for Readers {
+impl Answers for Queries {
     fn answer(&self, alloc: Global, call: &str, case: &mut Case<'_>) -> Result<String, CaseFault> {
         match call {
             "query" => queries::query(alloc, case),
@@ -24,6 +28,8 @@ impl Answers for Readers {
             "group" => groups::group(alloc, case),
             "asked" => groups::asked(alloc, case),
             "word_text" => words::said(alloc, case),
+            "solutions" => solved::solved(alloc, case),
+            "answers" => answers::answers(alloc, case),
             _ => Err(CaseFault::Row),
         }
     }
@@ -32,8 +38,14 @@ impl Answers for Readers {
 fn main(rt: HostRuntime) -> ExitCode {
     run(
         &rt,
-        &Readers,
+        &Queries,
         "names.json",
-        &["words.jsonl", "queries.jsonl", "groups.jsonl"],
+        &[
+            "words.jsonl",
+            "queries.jsonl",
+            "groups.jsonl",
+            "algebra.jsonl",
+            "solutions.jsonl",
+        ],
     )
 }

@@ -1,5 +1,5 @@
 use Rattle.row_algebra.specs.Algebra.{HaveWidth}
-use Rattle.algebra_cases.proofs.rows.block_of.Given as goal
+use Rattle.query_cases.proofs.rows.block_of.Given as goal
 
 abbrev pub invariant-loop-line : goal.invariant-loop-line
 invariant-loop-line l = HaveWidth l.names l.rows.items
