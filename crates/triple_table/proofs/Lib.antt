@@ -18,3 +18,4 @@ pub mod Gathered
 pub mod Ranked
 pub mod Distinct
 pub mod Kept
+pub mod Copies

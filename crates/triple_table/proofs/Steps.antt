@@ -7,6 +7,7 @@ use Rattle.std.proofs.lemmas.List.Concat.{flat_map-append}
 use Rattle.std.proofs.lemmas.List.Elements.{filter-append, filter_map-append}
 use Rattle.rdf_terms.specs.declared.term.Term.{Term}
 use Rattle.rdf_terms.specs.declared.term.Quad.{Quad}
+use Rattle.rdf_terms.specs.declared.term.Triple.{Triple}
 use Rattle.triple_table.specs.declared.choice.Choice.{Choice}
 use Rattle.triple_table.specs.Chosen.{is_chosen, chosen}
 use Rattle.triple_table.specs.Served.{terms_of, terms_in}
@@ -30,3 +31,8 @@ pub labels_more : {X : Type 0} (f : Term → Option X) (done : List X) (choice :
     done ≡ filter_map f (terms_of (chosen choice (take i quads))) → done ++ filter_map f (terms_of (chosen choice (quad ∷ []))) ≡ filter_map f (terms_of (chosen choice (take (i + 1) quads)))
 labels_more f done choice quads i quad l e h =
     ap (λ xs. xs ++ filter_map f (terms_of (chosen choice (quad ∷ [])))) h ∙ sym (ap (filter_map f) (terms_more choice quads i quad l e) ∙ filter_map-append f _ _)
+
+pub triples_more : (f : Triple → Triple) (old new : List Triple) (choice : Choice) (quads : List Quad) (i : ℕ) (quad : Quad) → i < length quads → quad ≡ get_or quads i quad →
+    new ≡ old ++ map f (chosen choice (quad ∷ [])) → old ≡ map f (chosen choice (take i quads)) → new ≡ map f (chosen choice (take (i + 1) quads))
+triples_more f old new choice quads i quad l e n o =
+    n ∙ ap (λ ts. ts ++ map f (chosen choice (quad ∷ []))) o ∙ sym (ap (map f) (chosen_more choice quads i quad l e) ∙ map-append f _ _)

@@ -53,11 +53,27 @@ pub(crate) fn skolem_triple(
     requires authority { IsAuthority authority.now }
     ensures { IfOk result (λ t. t ≡ skolem_triple authority.now triple.now) }
 {
-    Ok(Triple {
-        subject: skolem(alloc, authority, &triple.subject)?,
-        predicate: skolem(alloc, authority, &triple.predicate)?,
-        object: skolem(alloc, authority, &triple.object)?,
-    })
+    let subject = skolem(alloc, authority, &triple.subject)?;
+    let predicate = match skolem(alloc, authority, &triple.predicate) {
+        Ok(predicate) => predicate,
+        Err(fault) => {
+            // Dropped here, so that no exit below has it.
+            drop(subject);
+            return Err(fault);
+        }
+    };
+    match skolem(alloc, authority, &triple.object) {
+        Ok(object) => Ok(Triple {
+            subject,
+            predicate,
+            object,
+        }),
+        Err(fault) => {
+            drop(subject);
+            drop(predicate);
+            Err(fault)
+        }
+    }
 }
 
 /// What follows this prefix in a text that begins with it.

@@ -44,7 +44,7 @@ pub struct Range {
 }
 
 /// A triple of ids in the order in which they are compared.
-#[derive(Clone, Copy, PartialEq, Eq, PartialOrd, Ord, Debug)]
+#[derive(Clone, Copy, PartialEq, Eq, PartialOrd, Ord)]
 pub struct Row {
     pub first: u32,
     pub second: u32,
