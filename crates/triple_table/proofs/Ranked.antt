@@ -120,6 +120,11 @@ ranked_none terms entries ranked ranks e l = subst (λ xs. AreRankedTo terms ent
   len = l;
 }
 
+pub ranks_at : (terms : List Term) (entries : List Entry) (i : ℕ) (e : Entry) (ranks : List ℕ) → All (IsEntry terms) entries → i < length entries → e ≡ get_or entries i e → (len : ℕ) → len ≡ length ranks → length ranks ≡ length terms → e.place < len
+ranks_at terms entries i e ranks each l is len ok same =
+    let within = (subst (IsEntry terms) (sym is) (All-get_or (IsEntry terms) entries i e l each)).within in
+    omega (arith, within, ok, same)
+
 rank_kept : (terms old new : List Term) (ranks : List ℕ) (k : ℕ) → Keeps old new → IsRank terms old ranks k → IsRank terms new ranks k
 rank_kept terms old new ranks k keeps h = record {
   within = let a = keeps.longer in let b = h.within in omega (arith, a, b);

@@ -7,7 +7,7 @@ use Rattle.rdf_terms.specs.declared.term.Term.{Term}
 use Rattle.rdf_terms.specs.Order.{term_order}
 use Rattle.triple_table.specs.declared.ranking.Entry.{Entry}
 use Rattle.triple_table.specs.Ranking.{borrowed_terms, AreEntries, IsEntry}
-use Rattle.triple_table.proofs.Ranked.{ranked_none, ranked_more, ranked_all, not_below}
+use Rattle.triple_table.proofs.Ranked.{ranked_none, ranked_more, ranked_all, ranks_at, not_below}
 use Rattle.triple_table.proofs.ranking.rank_terms.Goals as goal
 
 pub loop-entry-init : goal.loop-entry-init
@@ -15,6 +15,11 @@ loop-entry-init c =
     let len = c.in_ok-ranks.ensures.len in let ok = c.in_ok-ranks.ranks.ok in let m = length-map c.args.terms.now (λ (b : Bor Term). b.now) in
     ranked_none (borrowed_terms c.args.terms.now) c.deref-entry-items.result.now (borrowed_terms c.new-ordered.result.items) c.in_ok-ranks.ranks.items (ap borrowed_terms c.new-ordered.ensures.items)
     (omega (arith, len, ok, m))
+
+pub index_mut-requires : goal.index_mut-requires
+index_mut-requires c =
+    ranks_at (borrowed_terms c.args.terms.now) c.deref-entry-items.result.now c.loop-entry.entry-index c.entry-item.result c.loop-entry.ranks.items
+    (subst (λ (es : List Entry). All (IsEntry (borrowed_terms c.args.terms.now)) es) (sym c.deref-entry-items.ensures.value) c.in_ok-entries.ensures.entries.each) c.loop-entry-test.true c.entry-item.is _ c.loop-entry.ranks.ok.0 c.loop-entry.invariant.len
 
 pub loop-entry-preserved : goal.loop-entry-preserved
 loop-entry-preserved c =
