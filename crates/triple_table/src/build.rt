@@ -80,7 +80,9 @@ fn ranked_triples(
     let gathered = gather(alloc, quads, choice)?;
     let genids = genid_terms(alloc, gathered.terms.as_slice(), authority)?;
     let served = served_terms(alloc, gathered.terms.as_slice(), genids.as_slice())?;
-    let ranked = rank_terms(alloc, served.as_slice())?;
+    let ranking = rank_terms(alloc, served.as_slice());
+    drop(served);
+    let ranked = ranking?;
     if ranked.terms.len() > most as usize {
         return Err(BuildFault::TooMany);
     }
