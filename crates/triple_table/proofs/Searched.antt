@@ -15,6 +15,7 @@ use Rattle.list_laws.proofs.Members.{contains_one, one_of}
 use Rattle.rdf_terms.specs.Order.{bytes_order}
 use Rattle.rdf_terms.specs.EqualityLaws.{same_iri}
 use Rattle.rdf_terms.proofs.Equality.{equal as bytes_same}
+use Rattle.rdf_terms.specs.declared.term.Term.{Term}
 use Rattle.rdf_terms.specs.declared.term.Term.TheVariants.{Iri}
 use Rattle.triple_table.specs.Genid.{genid}
 use Rattle.triple_table.specs.Labels.{IsFirstClash, texts}
@@ -34,6 +35,21 @@ no_clash authority labels text label e none = record {
   within = omega arith;
   found = λ l. absurd (omega arith);
   before = λ k m h. none k m (sym (genid_same authority label (slice_index_or labels k []) (sym e ∙ same_iri _ _ (one_of _ _ h))));
+}
+
+-- a term that is no IRI, and an IRI that stands for no label
+pub no_iri : (authority : List ℕ) (labels : List (List ℕ)) (term : Term) (n : ℕ) → n ≡ length labels → ((iri : List ℕ) → term ≢ Iri iri) → IsFirstClash authority labels (term ∷ []) n
+no_iri authority labels term n e other = record {
+  within = omega (arith, e);
+  found = λ l. absurd (omega (arith, e, l));
+  before = λ k m h. other _ (one_of _ _ h);
+}
+
+pub no_label : (authority : List ℕ) (labels : List (List ℕ)) (text : List ℕ) (n : ℕ) → n ≡ length labels → ((label : List ℕ) → text ≢ genid authority label) → IsFirstClash authority labels (Iri text ∷ []) n
+no_label authority labels text n e none = record {
+  within = omega (arith, e);
+  found = λ l. absurd (omega (arith, e, l));
+  before = λ k m h. none _ (same_iri _ _ (one_of _ _ h));
 }
 
 module _ (borrowed : List (Bor (List ℕ))) (s : IsStrictlySortedBy bytes_order (texts borrowed)) (d : Bor (List ℕ)) (key : List ℕ) where
