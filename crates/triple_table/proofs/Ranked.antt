@@ -228,6 +228,11 @@ ranked_all terms entries i ranked ranks entry past h = record {
 
 -- ---- triples by ranks
 
+pub few_copies : (terms : List Term) (slice items : List (Bor Term)) (len most : ℕ) → terms ≡ borrowed_terms slice → slice ≡ items → len ≡ length items → len ≤ most → length terms ≤ most
+few_copies terms slice items len most e v ok l =
+    let same : length terms ≡ length items = ap length (e ∙ ap borrowed_terms v) ∙ length-map items (λ (t : Bor Term). t.now) in
+    omega (arith, same, ok, l)
+
 module _ (authority : List ℕ) (triples : List Triple) (terms ranked : List Term) (places : List Places) (ranks : List ℕ) (g : IsGathered triples terms places) (r : AreRanked (map (skolem authority) terms) ranked ranks) where
   len : length ranks ≡ length terms
   len = r.len ∙ length-map terms (skolem authority)

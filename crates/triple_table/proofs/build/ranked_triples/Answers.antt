@@ -8,7 +8,7 @@ use Rattle.triple_table.specs.Chosen.{chosen}
 use Rattle.triple_table.specs.Genid.{skolem_triple}
 use Rattle.triple_table.specs.Ranking.{borrowed_terms, HasRanks}
 use Rattle.triple_table.specs.Stored.{triple_at, IsIdTriple, IsRanking}
-use Rattle.triple_table.proofs.Ranked.{all_ids, all_ranks, ids_moved, is_ranking, served_ranked, small_ranks, triples_are}
+use Rattle.triple_table.proofs.Ranked.{all_ids, all_ranks, few_copies, ids_moved, is_ranking, served_ranked, small_ranks, triples_are}
 use Rattle.triple_table.proofs.build.ranked_triples.Goals as goal
 
 pub returns-then-len-most-clause-too_many : goal.returns-then-len-most-clause-too_many
@@ -41,6 +41,10 @@ returns-clause-ranking c =
     let r = served_ranked c.args.authority.now c.in_ok-gathered.gathered.terms.items c.as_slice.result.now c.as_slice-2.result.now c.in_ok-served.served.items c.as_slice-4.result.now c.in_ok-genids.genids.items c.as_slice-3.result.now
     (borrowed_terms c.in_ok-ranked.ranked.terms.items) c.in_ok-ranked.ranked.ranks.items c.in_ok-genids.ensures c.as_slice.ensures.value c.as_slice-2.ensures.value c.as_slice-3.ensures.value c.in_ok-served.ensures c.as_slice-4.ensures.value c.in_ok-ranked.ensures in
     subst (λ (ts : List Term). IsRanking (map (skolem_triple c.args.authority.now) (chosen c.args.choice.now c.args.quads.now)) ts) (sym (c.in_ok-terms.ensures ∙ ap borrowed_terms c.as_slice-7.ensures.value)) (is_ranking c.args.authority.now (chosen c.args.choice.now c.args.quads.now) (borrowed_terms c.in_ok-gathered.gathered.terms.items) (borrowed_terms c.in_ok-ranked.ranked.terms.items) c.in_ok-gathered.gathered.triples.items c.in_ok-ranked.ranked.ranks.items c.in_ok-gathered.ensures r)
+
+pub returns-clause-few : goal.returns-clause-few
+returns-clause-few c =
+    few_copies c.in_ok-terms.terms c.as_slice-7.result.now c.in_ok-ranked.ranked.terms.items c.len.result c.args.most c.in_ok-terms.ensures c.as_slice-7.ensures.value (c.len.ensures ∙ c.in_ok-ranked.ranked.terms.ok.0) c.if-len-most.false
 
 pub returns-clause-ids : goal.returns-clause-ids
 returns-clause-ids c =
