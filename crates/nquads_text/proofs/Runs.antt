@@ -1,5 +1,6 @@
--- A form up to its first mark, and how what is appended piece by piece stands together.
-use Rattle.std.proofs.Common.{ℕ, suc, ◌≡◌, ◌+◌, ◌<◌, ◌⊎◌, inl, inr, true, false, List, [], ◌∷◌, ◌++◌, length, take, drop, slice_index, Option, Some, None, refl, ap, sym, subst, ◌∙◌, arith, append_assoc}
+-- A form up to its first mark, and what is appended in steps.
+use Rattle.std.proofs.Common.{ℕ, suc, ◌≡◌, ◌+◌, ◌<◌, ◌⊎◌, inl, inr, true, false, List, [], ◌∷◌, ◌++◌, length, take, drop, slice_index, Option, Some, None, Result, Ok, Err, refl, ap, sym, subst, ◌∙◌, arith, append_assoc}
+use Rattle.std.specs.Prelude.{OnOk}
 use Rattle.std.proofs.lemmas.List.{drop_more}
 use Rattle.std.proofs.lemmas.Option.{same_Some}
 use Rattle.rdf_terms.specs.Canon.{is_marked, canonical_byte, canonical_form}
@@ -52,21 +53,22 @@ run_is form old run byte rest n h l r b d =
     ∙ append_assoc old (take n form) (canonical_byte (slice_index form n) ++ canonical_form (drop (n + 1) form))
     ∙ ap (λ (x : List ℕ). old ++ x) (sym (marked_at form n h l))
 
--- how what is appended piece by piece stands together
-pub quoted_is : (old form : List ℕ) → ((old ++ 34 ∷ []) ++ form) ++ 34 ∷ [] ≡ old ++ 34 ∷ (form ++ 34 ∷ [])
-quoted_is old form = append_assoc (old ++ 34 ∷ []) form (34 ∷ []) ∙ append_assoc old (34 ∷ []) (form ++ 34 ∷ [])
+-- what is appended in two steps, and in three
+pub two_steps : {X E : Type 0} (r : Result X E) (old one new a b : List ℕ) → one ≡ old ++ a → OnOk r (new ≡ one ++ b) → OnOk r (new ≡ old ++ (a ++ b))
+two_steps (Ok x) old one new a b p q = q ∙ ap (λ (l : List ℕ). l ++ b) p ∙ append_assoc old a b
+two_steps (Err e) old one new a b p q = tt
 
-pub literal_is : (old form kind : List ℕ) → (old ++ 34 ∷ (form ++ 34 ∷ [])) ++ kind ≡ old ++ 34 ∷ (form ++ 34 ∷ kind)
-literal_is old form kind = append_assoc old (34 ∷ (form ++ 34 ∷ [])) kind ∙ ap (λ (l : List ℕ). old ++ 34 ∷ l) (append_assoc form (34 ∷ []) kind)
+pub three_steps : {X E : Type 0} (r : Result X E) (old one two new a b d : List ℕ) → one ≡ old ++ a → two ≡ one ++ b → OnOk r (new ≡ two ++ d) → OnOk r (new ≡ old ++ (a ++ (b ++ d)))
+three_steps (Ok x) old one two new a b d p q s =
+    s ∙ ap (λ (l : List ℕ). l ++ d) (q ∙ ap (λ (l : List ℕ). l ++ b) p) ∙ append_assoc (old ++ a) b d ∙ append_assoc old a (b ++ d)
+three_steps (Err e) old one two new a b d p q s = tt
 
-pub triple_is : (old s p o : List ℕ) → ((old ++ (s ++ 32 ∷ [])) ++ (p ++ 32 ∷ [])) ++ o ≡ old ++ (s ++ 32 ∷ (p ++ 32 ∷ o))
-triple_is old s p o =
-    append_assoc (old ++ (s ++ 32 ∷ [])) (p ++ 32 ∷ []) o
-    ∙ append_assoc old (s ++ 32 ∷ []) ((p ++ 32 ∷ []) ++ o)
-    ∙ ap (λ (l : List ℕ). old ++ l) (append_assoc s (32 ∷ []) ((p ++ 32 ∷ []) ++ o) ∙ ap (λ (l : List ℕ). s ++ 32 ∷ l) (append_assoc p (32 ∷ []) o))
+-- the bytes of a line behind those that stood there
+line_at : (s p o g end : List ℕ) → (s ++ 32 ∷ (p ++ 32 ∷ o)) ++ (g ++ end) ≡ s ++ 32 ∷ (p ++ 32 ∷ ((o ++ g) ++ end))
+line_at s p o g end =
+    append_assoc s (32 ∷ (p ++ 32 ∷ o)) (g ++ end)
+    ∙ ap (λ (l : List ℕ). s ++ 32 ∷ l) (append_assoc p (32 ∷ o) (g ++ end) ∙ ap (λ (l : List ℕ). p ++ 32 ∷ l) (sym (append_assoc o g end)))
 
-pub line_is : (old s p o g end : List ℕ) → ((old ++ (s ++ 32 ∷ (p ++ 32 ∷ o))) ++ g) ++ end ≡ old ++ (s ++ 32 ∷ (p ++ 32 ∷ ((o ++ g) ++ end)))
-line_is old s p o g end =
-    append_assoc (old ++ (s ++ 32 ∷ (p ++ 32 ∷ o))) g end
-    ∙ append_assoc old (s ++ 32 ∷ (p ++ 32 ∷ o)) (g ++ end)
-    ∙ ap (λ (l : List ℕ). old ++ l) (append_assoc s (32 ∷ (p ++ 32 ∷ o)) (g ++ end) ∙ ap (λ (l : List ℕ). s ++ 32 ∷ l) (append_assoc p (32 ∷ o) (g ++ end) ∙ ap (λ (l : List ℕ). p ++ 32 ∷ l) (sym (append_assoc o g end))))
+pub line_is : {X E : Type 0} (r : Result X E) (old new s p o g end : List ℕ) → OnOk r (new ≡ old ++ ((s ++ 32 ∷ (p ++ 32 ∷ o)) ++ (g ++ end))) → OnOk r (new ≡ old ++ (s ++ 32 ∷ (p ++ 32 ∷ ((o ++ g) ++ end))))
+line_is (Ok x) old new s p o g end h = h ∙ ap (λ (l : List ℕ). old ++ l) (line_at s p o g end)
+line_is (Err e) old new s p o g end h = tt

@@ -89,7 +89,10 @@ fn checked(loose: LooseQuad, longest: usize) -> Result<Quad, LineFault>
     ensures { LineGives result (or_fault (loose_quad loose) (fault_of longest (loose_quad loose))) }
 {
     match loose.fault(longest) {
-        Some(why) => Err(LineFault::Bad(why)),
+        Some(why) => {
+            drop(loose);
+            Err(LineFault::Bad(why))
+        }
         None => Ok(quad(loose)),
     }
 }

@@ -2,6 +2,7 @@
 ghost use Rattle.std.specs.Prelude.{◌≡◌, ◌+◌, ◌≤◌, ◌<◌, ◌^◌, length, false, true, Option, Some, None, Result, Ok, IfOk};
 ghost use Rattle.std.specs.Option.{option_map};
 ghost use Rattle.rdf_terms.specs.Iri.{has_scheme};
+ghost use Rattle.rdf_terms.specs.declared.term.Term.{Term};
 ghost use Rattle.rdf_terms.specs.Tag.{lower};
 ghost use Rattle.rdf_terms.specs.Datatype.{is_xsd_string, is_lang_string};
 ghost use Rattle.rdf_terms.specs.Kinds.{typed_kind};
@@ -140,6 +141,35 @@ fn graph_of(
     }
 }
 
+/// The object and the graph of a raw statement with their escapes resolved.
+fn last_of(
+    alloc: Global,
+    raw: &RawQuad<'_>,
+) -> Result<Option<(LooseTerm, Option<LooseTerm>)>, OutOfMemory>
+    requires { IsWritten (quad_view raw.now) }
+    ensures { IfOk result (λ r. (subject predicate : Term) → option_map
+        (λ p. record {
+          triple = record { subject = subject; predicate = predicate; object = loose_term p.0 };
+          graph = option_map loose_term p.1;
+        }) r ≡ resolved_after subject predicate (quad_view raw.now)) }
+{
+    let Some(object) = term_of(alloc, raw.object)? else {
+        return Ok(None);
+    };
+    // A drop that is written out is one call; at an exit each variant of a term has steps of its own.
+    match graph_of(alloc, raw.graph) {
+        Ok(Some(graph)) => Ok(Some((object, graph))),
+        Ok(None) => {
+            drop(object);
+            Ok(None)
+        }
+        Err(fault) => {
+            drop(object);
+            Err(fault)
+        }
+    }
+}
+
 /// The statement of a subject and a predicate, and of the rest of a raw one with its escapes resolved.
 fn loose_after(
     alloc: Global,
@@ -151,18 +181,24 @@ fn loose_after(
     ensures { IfOk result (λ r. option_map loose_quad r
         ≡ resolved_after (loose_term subject) (loose_term predicate) (quad_view raw.now)) }
 {
-    let Some(object) = term_of(alloc, raw.object)? else {
-        return Ok(None);
-    };
-    let Some(graph) = graph_of(alloc, raw.graph)? else {
-        return Ok(None);
-    };
-    Ok(Some(LooseQuad {
-        subject,
-        predicate,
-        object,
-        graph,
-    }))
+    match last_of(alloc, raw) {
+        Ok(Some((object, graph))) => Ok(Some(LooseQuad {
+            subject,
+            predicate,
+            object,
+            graph,
+        })),
+        Ok(None) => {
+            drop(subject);
+            drop(predicate);
+            Ok(None)
+        }
+        Err(fault) => {
+            drop(subject);
+            drop(predicate);
+            Err(fault)
+        }
+    }
 }
 
 /// The statement with its escapes resolved, or nothing where one names what it may not.
@@ -174,10 +210,17 @@ pub fn loose_of(alloc: Global, raw: &RawQuad<'_>) -> Result<Option<LooseQuad>, O
     let Some(subject) = term_of(alloc, raw.subject)? else {
         return Ok(None);
     };
-    let Some(predicate) = term_of(alloc, raw.predicate)? else {
-        return Ok(None);
-    };
-    loose_after(alloc, raw, subject, predicate)
+    match term_of(alloc, raw.predicate) {
+        Ok(Some(predicate)) => loose_after(alloc, raw, subject, predicate),
+        Ok(None) => {
+            drop(subject);
+            Ok(None)
+        }
+        Err(fault) => {
+            drop(subject);
+            Err(fault)
+        }
+    }
 }
 
 impl LooseKind {

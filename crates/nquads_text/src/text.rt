@@ -78,12 +78,10 @@ pub fn read_line(
 ) -> Result<(), LineFault>
     ensures { AddsLine result (line_read longest line.now) quads.old.items quads.new.items }
 {
-    match line_read(alloc, line, longest)? {
-        None => Ok(()),
-        Some(quad) => {
-            add_quad(quads, quad)?;
-            Ok(())
-        }
+    match line_read(alloc, line, longest) {
+        Ok(None) => Ok(()),
+        Ok(Some(quad)) => Ok(add_quad(quads, quad)?),
+        Err(fault) => Err(fault),
     }
 }
 

@@ -36,6 +36,29 @@ fn push_byte(b: u8, out: &mut Vec<u8>) -> Result<(), OutOfMemory>
     }
 }
 
+/// Appends two texts, one after the other.
+fn push_two(first: &[u8], last: &[u8], out: &mut Vec<u8>) -> Result<(), OutOfMemory>
+    ensures ok { OnOk result (out.new.items ≡ out.old.items ++ (first.now ++ last.now)) }
+    ensures front { Begins out.old.items out.new.items }
+{
+    push_all(first, out)?;
+    push_all(last, out)
+}
+
+/// Appends three texts, one after another.
+fn push_three(
+    first: &[u8],
+    middle: &[u8],
+    last: &[u8],
+    out: &mut Vec<u8>,
+) -> Result<(), OutOfMemory>
+    ensures ok { OnOk result (out.new.items ≡ out.old.items ++ (first.now ++ (middle.now ++ last.now))) }
+    ensures front { Begins out.old.items out.new.items }
+{
+    push_all(first, out)?;
+    push_two(middle, last, out)
+}
+
 /// The place of the first byte that is written with a backslash.
 fn mark_place(form: &[u8]) -> Option<usize>
     ensures place { result ≡ first_place is_marked 0 form.now }
@@ -50,7 +73,6 @@ fn mark_place(form: &[u8]) -> Option<usize>
 }
 
 /// Appends the bytes up to the one in place n, which is written with a backslash, and that one. Answers those after it.
-#[tactic(auto, using(list_laws::proofs::Begins::begins_on))]
 fn push_run<'a>(form: &'a [u8], n: usize, out: &mut Vec<u8>) -> Result<&'a [u8], OutOfMemory>
     requires place { first_place is_marked 0 form.now ≡ Some n }
     requires within { n < length form.now }
@@ -77,61 +99,40 @@ fn push_form(form: &[u8], out: &mut Vec<u8>) -> Result<(), OutOfMemory>
     Ok(())
 }
 
-#[tactic(auto, using(list_laws::proofs::Begins::begins_on))]
 fn push_iri(text: &str, out: &mut Vec<u8>) -> Result<(), OutOfMemory>
     ensures ok { OnOk result (out.new.items ≡ out.old.items ++ 60 ∷ (text.now ++ 62 ∷ [])) }
     ensures front { Begins out.old.items out.new.items }
 {
-    push_one(b'<', out)?;
-    push_all(text.as_bytes(), out)?;
-    push_one(b'>', out)
+    push_three(b"<", text.as_bytes(), b">", out)
 }
 
-#[tactic(auto, using(list_laws::proofs::Begins::itself_begins, list_laws::proofs::Begins::begins_on))]
+/// The quote that closes a form, and what follows it.
 fn push_kind(kind: &Kind, out: &mut Vec<u8>) -> Result<(), OutOfMemory>
-    ensures ok { OnOk result (out.new.items ≡ out.old.items ++ canonical_kind kind.now) }
+    ensures ok { OnOk result (out.new.items ≡ out.old.items ++ 34 ∷ canonical_kind kind.now) }
     ensures front { Begins out.old.items out.new.items }
 {
     match kind {
-        Kind::Plain => Ok(()),
-        Kind::Typed(datatype) => {
-            push_all(b"^^", out)?;
-            push_iri(datatype.as_str(), out)
-        }
-        Kind::Tagged(tag) => {
-            push_one(b'@', out)?;
-            push_all(tag.as_str().as_bytes(), out)
-        }
+        Kind::Plain => push_one(b'"', out),
+        Kind::Typed(datatype) => push_three(b"\"^^<", datatype.as_str().as_bytes(), b">", out),
+        Kind::Tagged(tag) => push_two(b"\"@", tag.as_str().as_bytes(), out),
     }
 }
 
-#[tactic(auto, using(list_laws::proofs::Begins::begins_on, crate::proofs::Runs::quoted_is))]
-fn push_quoted(form: &str, out: &mut Vec<u8>) -> Result<(), OutOfMemory>
-    ensures ok { OnOk result (out.new.items ≡ out.old.items ++ 34 ∷ (canonical_form form.now ++ 34 ∷ [])) }
-    ensures front { Begins out.old.items out.new.items }
-{
-    push_one(b'"', out)?;
-    push_form(form.as_bytes(), out)?;
-    push_one(b'"', out)
-}
-
-#[tactic(auto, using(list_laws::proofs::Begins::begins_on, crate::proofs::Runs::literal_is))]
 fn push_literal(form: &str, kind: &Kind, out: &mut Vec<u8>) -> Result<(), OutOfMemory>
     ensures ok { OnOk result (out.new.items
         ≡ out.old.items ++ 34 ∷ (canonical_form form.now ++ 34 ∷ canonical_kind kind.now)) }
     ensures front { Begins out.old.items out.new.items }
 {
-    push_quoted(form, out)?;
+    push_one(b'"', out)?;
+    push_form(form.as_bytes(), out)?;
     push_kind(kind, out)
 }
 
-#[tactic(auto, using(list_laws::proofs::Begins::begins_on))]
 fn push_label(label: &str, out: &mut Vec<u8>) -> Result<(), OutOfMemory>
     ensures ok { OnOk result (out.new.items ≡ out.old.items ++ 95 ∷ 58 ∷ label.now) }
     ensures front { Begins out.old.items out.new.items }
 {
-    push_all(b"_:", out)?;
-    push_all(label.as_bytes(), out)
+    push_two(b"_:", label.as_bytes(), out)
 }
 
 fn push_term(term: &Term, out: &mut Vec<u8>) -> Result<(), OutOfMemory>
@@ -145,43 +146,37 @@ fn push_term(term: &Term, out: &mut Vec<u8>) -> Result<(), OutOfMemory>
     }
 }
 
-#[tactic(auto, using(list_laws::proofs::Begins::itself_begins, list_laws::proofs::Begins::begins_on))]
+/// A space and a term.
+fn push_spaced(term: &Term, out: &mut Vec<u8>) -> Result<(), OutOfMemory>
+    ensures ok { OnOk result (out.new.items ≡ out.old.items ++ 32 ∷ canonical_term term.now) }
+    ensures front { Begins out.old.items out.new.items }
+{
+    push_one(b' ', out)?;
+    push_term(term, out)
+}
+
+#[tactic(auto, using(list_laws::proofs::Begins::itself_begins))]
 fn push_graph(graph: &Option<Term>, out: &mut Vec<u8>) -> Result<(), OutOfMemory>
     ensures ok { OnOk result (out.new.items ≡ out.old.items ++ canonical_graph graph.now) }
     ensures front { Begins out.old.items out.new.items }
 {
     match graph {
         None => Ok(()),
-        Some(graph) => {
-            push_one(b' ', out)?;
-            push_term(graph, out)
-        }
+        Some(graph) => push_spaced(graph, out),
     }
 }
 
-/// A term and a space.
-#[tactic(auto, using(list_laws::proofs::Begins::begins_on))]
-fn push_spaced(term: &Term, out: &mut Vec<u8>) -> Result<(), OutOfMemory>
-    ensures ok { OnOk result (out.new.items ≡ out.old.items ++ (canonical_term term.now ++ 32 ∷ [])) }
-    ensures front { Begins out.old.items out.new.items }
-{
-    push_term(term, out)?;
-    push_one(b' ', out)
-}
-
-#[tactic(auto, using(list_laws::proofs::Begins::begins_on, crate::proofs::Runs::triple_is))]
 fn push_triple(triple: &Triple, out: &mut Vec<u8>) -> Result<(), OutOfMemory>
     ensures ok { OnOk result (out.new.items ≡ out.old.items
         ++ (canonical_term triple.now.subject
         ++ 32 ∷ (canonical_term triple.now.predicate ++ 32 ∷ canonical_term triple.now.object))) }
     ensures front { Begins out.old.items out.new.items }
 {
-    push_spaced(&triple.subject, out)?;
+    push_term(&triple.subject, out)?;
     push_spaced(&triple.predicate, out)?;
-    push_term(&triple.object, out)
+    push_spaced(&triple.object, out)
 }
 
-#[tactic(auto, using(list_laws::proofs::Begins::begins_on, crate::proofs::Runs::line_is))]
 fn push_quad(quad: &Quad, out: &mut Vec<u8>) -> Result<(), OutOfMemory>
     ensures ok { OnOk result (out.new.items ≡ out.old.items ++ canonical_line quad.now) }
     ensures front { Begins out.old.items out.new.items }
