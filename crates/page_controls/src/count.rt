@@ -18,7 +18,7 @@ use crate::vocabulary::{total_items, void_triples};
 use fragment_page::PageFault;
 use rdf_terms::{Term, Triple};
 use std::alloc::Global;
-use tpf_base::MOST_DIGITS;
+use tpf_base::{MOST_DIGITS, OutOfMemory};
 
 fn are_digits(bytes: &[u8]) -> bool
     ensures { result ≡ list_all is_ascii_digit bytes.now }
@@ -102,6 +102,17 @@ pub(crate) fn read_count(alloc: Global, controls: &Controls) -> Result<u64, Page
         (WhyNoCount controls.now.quads controls.now.topic) result }
 {
     let total = total_items(alloc)?;
-    let triples = void_triples(alloc)?;
-    count_of(count_objects(controls, &total, &triples))
+    match void_triples(alloc) {
+        Ok(triples) => {
+            let count = count_of(count_objects(controls, &total, &triples));
+            drop(total);
+            drop(triples);
+            count
+        }
+        Err(OutOfMemory) => {
+            // Dropped here, so that no other way out has it.
+            drop(total);
+            Err(PageFault::OutOfMemory)
+        }
+    }
 }

@@ -359,7 +359,10 @@ fn sorted_searched<'a>(alloc: Global, controls: &Controls<'a>) -> Result<Vec<&'a
         ↔ IsSearched controls.entry.now.quads controls.entry.now.topic node) }
 {
     let search = search_form(alloc)?;
-    let mut nodes = all_searched(alloc, controls.triples(), &search)?;
+    let nodes = all_searched(alloc, controls.triples(), &search);
+    // Dropped here, so that no exit below has it.
+    drop(search);
+    let mut nodes = nodes?;
     nodes.sort_unstable();
     nodes.dedup();
     Ok(nodes)
@@ -382,20 +385,6 @@ fn first_form<'a>(index: &FormIndex<'_, 'a>, nodes: &[&Term]) -> Option<FormPart
     None
 }
 
-/// The texts of the least form that is found by the index, if there is one.
-fn least_found<'a>(
-    alloc: Global,
-    index: &FormIndex<'_, 'a>,
-) -> Result<Option<FormParts<'a>>, OutOfMemory>
-    requires { IsIndex index.now }
-    ensures { IfOk result (λ o. MatchOption o
-        (HasNoForm index.entry.now.controls.now.quads index.entry.now.controls.now.topic)
-        (λ parts. IsLeastForm index.entry.now.controls.now.quads index.entry.now.controls.now.topic (texts_of parts))) }
-{
-    let nodes = sorted_searched(alloc, index.controls)?;
-    Ok(first_form(index, nodes.as_slice()))
-}
-
 /// The texts of the least form, if there is one.
 fn least_form<'a>(
     alloc: Global,
@@ -406,8 +395,9 @@ fn least_form<'a>(
 {
     let words = FormWords::new(alloc)?;
     let variables = all_variables(alloc, controls)?;
+    let nodes = sorted_searched(alloc, controls)?;
     let index = form_index(controls, &words, variables.as_slice());
-    least_found(alloc, &index)
+    Ok(first_form(&index, nodes.as_slice()))
 }
 
 /// The template of these texts.

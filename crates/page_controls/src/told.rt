@@ -91,7 +91,10 @@ pub fn read_controls(
 {
     let topics = topics_of(alloc, quads)?;
     let own = iri(alloc, address.text())?;
-    let Some(topic) = find_topic(topics.as_slice(), &own) else {
+    let found = find_topic(topics.as_slice(), &own);
+    // Dropped here, so that no exit below has it.
+    drop(own);
+    let Some(topic) = found else {
         return Err(PageFault::NoTopic);
     };
     read_topic(alloc, quads, topics.as_slice(), topic, address)

@@ -64,7 +64,10 @@ pub(crate) fn all_variables<'a>(
     ensures { IfOk result (λ v. AreVariables controls.entry.now.quads controls.entry.now.topic (named_all v.items)) }
 {
     let variable = mapped_variable(alloc)?;
-    let mut variables = listed_variables(alloc, controls.triples(), &variable)?;
+    let variables = listed_variables(alloc, controls.triples(), &variable);
+    // Dropped here, so that no exit below has it.
+    drop(variable);
+    let mut variables = variables?;
     variables.sort_unstable();
     variables.dedup();
     Ok(variables)

@@ -72,9 +72,15 @@ pub(crate) fn read_version(alloc: Global, controls: &Controls) -> Result<Option<
     let word = version_info(alloc)?;
     let triples = controls.triples();
     match first_version(triples, &word) {
-        None => Ok(None),
+        None => {
+            // Dropped here, so that no other way out has it.
+            drop(word);
+            Ok(None)
+        }
         Some(version) => {
-            if has_other_version(triples, &word, version) {
+            let several = has_other_version(triples, &word, version);
+            drop(word);
+            if several {
                 Ok(None)
             } else {
                 Ok(number(version))
