@@ -23,13 +23,26 @@ impl<'a> QuadText<'a> {
         ensures { IfOk result (λ triple. triple ≡ (quad_of self.entry).triple) }
     {
         let subject = self.subject.term(alloc)?;
-        let predicate = self.predicate.term(alloc)?;
-        let object = self.object.term(alloc)?;
-        Ok(Triple {
-            subject,
-            predicate,
-            object,
-        })
+        let predicate = match self.predicate.term(alloc) {
+            Ok(predicate) => predicate,
+            Err(fault) => {
+                // Dropped here, so that no other way out has it.
+                drop(subject);
+                return Err(fault);
+            }
+        };
+        match self.object.term(alloc) {
+            Ok(object) => Ok(Triple {
+                subject,
+                predicate,
+                object,
+            }),
+            Err(fault) => {
+                drop(subject);
+                drop(predicate);
+                Err(fault)
+            }
+        }
     }
 
     /// The quad.
@@ -38,8 +51,15 @@ impl<'a> QuadText<'a> {
         ensures { IfOk result (λ quad. quad ≡ quad_of self.entry) }
     {
         let triple = self.bare_triple(alloc)?;
-        let graph = self.graph.term(alloc)?;
-        let graph = Some(graph);
-        Ok(Quad { triple, graph })
+        match self.graph.term(alloc) {
+            Ok(graph) => Ok(Quad {
+                triple,
+                graph: Some(graph),
+            }),
+            Err(fault) => {
+                drop(triple);
+                Err(fault)
+            }
+        }
     }
 }

@@ -23,7 +23,6 @@ pub(crate) struct TextParts<'a> {
 // ---- appending
 
 /// Appends a text; an empty one costs nothing.
-#[tactic(auto, using(list_laws::proofs::Begins::same_begins, list_laws::proofs::Begins::more_begins, crate::proofs::WholeLaws::nothing_appended))]
 pub(crate) fn append(text: &str, out: &mut Vec<u8>) -> Result<(), OutOfMemory>
     ensures ok { OnOk result (out.new.items ≡ out.old.items ++ text.now) }
     ensures front { Begins out.old.items out.new.items }
