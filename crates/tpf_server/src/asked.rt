@@ -54,18 +54,29 @@ fn asked_by_number(
     ensures answer { IfOk result
         (λ asking. answer_of server.now.config asking ≡ answer_at server.now (question_in found)) }
 {
-    let Some(slots) = slots(alloc, &found)? else {
+    let slots = slots(alloc, &found);
+    let rows = found.into_rows();
+    let Some(slots) = slots? else {
         return Ok(Asking::Refused(Status::BadRequest));
     };
-    let rows = found.rows;
     match rows {
-        RowValues::Read(rows) => Ok(Asking::Page {
-            slots,
-            rows,
-            page,
-            snapshot: server.share()?,
-        }),
-        RowValues::Refused => Ok(Asking::Refused(Status::BadRequest)),
+        RowValues::Read(rows) => match server.share() {
+            Ok(snapshot) => Ok(Asking::Page {
+                slots,
+                rows,
+                page,
+                snapshot,
+            }),
+            Err(fault) => {
+                drop(slots);
+                Err(fault)
+            }
+        },
+        RowValues::Refused => {
+            // Dropped here, so that no exit below has it.
+            drop(slots);
+            Ok(Asking::Refused(Status::BadRequest))
+        }
     }
 }
 
@@ -73,7 +84,9 @@ fn asked_by_number(
 fn are_given(slots: Option<Slots>, rows: &RowValues) -> bool
     ensures { result ≡ (is_some slots && is_some (rows_in rows.now)) }
 {
-    slots.is_some() && matches!(rows, RowValues::Read(_))
+    let some = slots.is_some();
+    drop(slots);
+    some && matches!(rows, RowValues::Read(_))
 }
 
 /// What parameters ask for whose page has a number that 64 bits do not hold: a page has at least one
@@ -107,8 +120,15 @@ fn asked_by_parameters(
 {
     match page(&found.page) {
         PageNumber::Number(page) => asked_by_number(alloc, server, found, page),
-        PageNumber::Beyond => asked_beyond(alloc, server, &found),
-        PageNumber::Refused => Ok(Asking::Refused(Status::BadRequest)),
+        PageNumber::Beyond => {
+            let asking = asked_beyond(alloc, server, &found);
+            drop(found);
+            asking
+        }
+        PageNumber::Refused => {
+            drop(found);
+            Ok(Asking::Refused(Status::BadRequest))
+        }
     }
 }
 

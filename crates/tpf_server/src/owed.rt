@@ -32,7 +32,11 @@ pub struct Debt {
 fn body_or_nothing(without_body: bool, body: Rest) -> Rest
     ensures { result ≡ (if without_body then Rest.Nothing else body) }
 {
-    if without_body { Rest::Nothing } else { body }
+    if without_body {
+        drop(body);
+        return Rest::Nothing;
+    }
+    body
 }
 
 /// The answer to what is asked for.
@@ -68,15 +72,21 @@ fn begin(
     ensures front { Begins out.old.items out.new.items }
 {
     let answer = open_answer(alloc, config, &queued.asking)?;
-    write_answer_head(
+    let written = write_answer_head(
         alloc,
         answer.status,
         answer.media,
         answer.length,
         queued.closes,
         out,
-    )?;
-    Ok(body_or_nothing(queued.without_body, answer.body))
+    );
+    match written {
+        Ok(()) => Ok(body_or_nothing(queued.without_body, answer.body)),
+        Err(fault) => {
+            drop(answer);
+            Err(fault)
+        }
+    }
 }
 
 impl Debt {
@@ -207,7 +217,10 @@ impl Debt {
         }
         match self.waiting.pop_front() {
             Some(queued) => {
-                self.rest = begin(alloc, config, &queued, out)?;
+                let begun = begin(alloc, config, &queued, out);
+                // Dropped here, so that no exit below has it.
+                drop(queued);
+                self.rest = begun?;
                 Ok(())
             }
             None => Ok(()),

@@ -33,6 +33,15 @@ pub struct Parameters {
     pub rows: RowValues,
 }
 
+impl Parameters {
+    /// The rows; the other values are dropped.
+    pub fn into_rows(self) -> RowValues
+        ensures { result ≡ self.rows }
+    {
+        self.rows
+    }
+}
+
 /// A number of a page as parameters give it.
 #[derive(Clone, Copy, PartialEq, Eq)]
 pub enum PageNumber {
@@ -167,17 +176,35 @@ pub fn slots(alloc: Global, found: &Parameters) -> Result<Option<Slots>, OutOfMe
     let Some(subject) = slot(alloc, &found.subject)? else {
         return Ok(None);
     };
-    let Some(predicate) = slot(alloc, &found.predicate)? else {
-        return Ok(None);
+    let predicate = match slot(alloc, &found.predicate) {
+        Ok(Some(predicate)) => predicate,
+        Ok(None) => {
+            // Dropped here, so that no other way out has it.
+            drop(subject);
+            return Ok(None);
+        }
+        Err(fault) => {
+            drop(subject);
+            return Err(fault);
+        }
     };
-    let Some(object) = slot(alloc, &found.object)? else {
-        return Ok(None);
-    };
-    Ok(Some(Slots {
-        subject,
-        predicate,
-        object,
-    }))
+    match slot(alloc, &found.object) {
+        Ok(Some(object)) => Ok(Some(Slots {
+            subject,
+            predicate,
+            object,
+        })),
+        Ok(None) => {
+            drop(subject);
+            drop(predicate);
+            Ok(None)
+        }
+        Err(fault) => {
+            drop(subject);
+            drop(predicate);
+            Err(fault)
+        }
+    }
 }
 
 fn are_digits(text: &[u8]) -> bool

@@ -9,5 +9,5 @@ returns-then-is_left-clause-ok c =
 
 pub returns-in_ok-self-in-Some-clause-ok : goal.returns-in_ok-self-in-Some-clause-ok
 returns-in_ok-self-in-Some-clause-ok c =
-    answer_given c.args.config.now c.args.self.now.rest c.in_ok-self-in-Some.field-0 c.args.self.now.waiting.items c.pop_front.new.self.items c.in-Some.queued c.args.out.now.items c.begin.new.out.items
+    answer_given c.args.config.now c.args.self.now.rest c.in_ok-self-in-Some.field-0 c.args.self.now.waiting.items c.pop_front.new.self.items c.in-Some.queued c.args.out.now.items c.begin-begun.new.out.items
     (sym c.is_left.ensures ∙ c.if-is_left.false) c.in-Some.ensures.items c.in_ok-self-in-Some.ensures.ok
