@@ -1,6 +1,7 @@
 pub mod LineLengths
 pub mod Appends
 pub mod PlainForms
+pub mod FormLaws
 pub mod PartLaws
 pub mod GivenParts
 pub mod RestLaws

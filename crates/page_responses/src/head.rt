@@ -136,7 +136,6 @@ fn make_room(body_length: u128, out: &mut Vec<u8>) -> Result<(), OutOfMemory>
 
 /// Appends the head of a page, on a connection that goes on. All but the length of its body is the same
 /// on every page, so no list of fields is made.
-#[tactic(auto, using(list_laws::proofs::Begins::begins_on, list_laws::proofs::Begins::same_begins))]
 fn write_page_head(body_length: u128, out: &mut Vec<u8>) -> Result<(), OutOfMemory>
     ensures ok { OnOk result (out.new.items
         ≡ out.old.items ++ head_text (code Status.Success) (media_of MediaType.NQuads) body_length false) }

@@ -79,7 +79,7 @@ pub fn append(text: &str, out: &mut Vec<u8>) -> Result<(), OutOfMemory>
 }
 
 /// Appends a byte, a text, and the same or another byte and a space.
-#[tactic(auto, using(list_laws::proofs::Begins::begins_on, crate::proofs::Appends::enclosed_stands))]
+#[tactic(auto, using(crate::proofs::Appends::enclosed_stands))]
 fn append_enclosed(
     opening: u8,
     text: &str,
@@ -138,7 +138,7 @@ fn append_at(table: &Table, id: u32, out: &mut Vec<u8>) -> Result<(), OutOfMemor
 }
 
 /// Appends the line of a triple of the table.
-#[tactic(auto, using(crate::proofs::Appends::line_stands, list_laws::proofs::Begins::begins_on))]
+#[tactic(auto, using(crate::proofs::Appends::line_stands))]
 pub fn write_triple(table: &Table, ids: IdTriple, out: &mut Vec<u8>) -> Result<(), OutOfMemory>
     requires { IsIdTriple (held_terms table.now) ids }
     ensures ok { OnOk result (out.new.items ≡ out.old.items ++ triple_line (triple_at (held_terms table.now) ids)) }

@@ -45,7 +45,6 @@ fn push_byte(b: u8, out: &mut Vec<u8>) -> Result<(), OutOfMemory>
 }
 
 /// Appends bytes of a literal's form as they are written.
-#[tactic(auto, using(list_laws::proofs::Begins::begins_on))]
 fn push_form(form: &[u8], out: &mut Vec<u8>) -> Result<(), OutOfMemory>
     ensures ok { OnOk result (out.new.items ≡ out.old.items ++ concat (form_marks form.now)) }
     ensures front { Begins out.old.items out.new.items }
@@ -76,7 +75,6 @@ fn cut_plain(text: &[u8], cut: &mut Cut, out: &mut Vec<u8>) -> Result<(), OutOfM
 // ---- terms
 
 /// Appends what is cut of an IRI, in its brackets.
-#[tactic(auto, using(list_laws::proofs::Begins::begins_on))]
 fn cut_iri(text: &str, cut: &mut Cut, out: &mut Vec<u8>) -> Result<(), OutOfMemory>
     ensures ok { OnOk result (CutsMarks cut.old cut.new
         (plain_marks (60 ∷ []) ++ (plain_marks text.now ++ plain_marks (62 ∷ []))) out.old.items out.new.items) }
@@ -88,7 +86,6 @@ fn cut_iri(text: &str, cut: &mut Cut, out: &mut Vec<u8>) -> Result<(), OutOfMemo
 }
 
 /// Appends what is cut of two texts that are written as they are.
-#[tactic(auto, using(list_laws::proofs::Begins::begins_on))]
 fn cut_both(front: &[u8], text: &str, cut: &mut Cut, out: &mut Vec<u8>) -> Result<(), OutOfMemory>
     ensures ok { OnOk result (CutsMarks cut.old cut.new
         (plain_marks front.now ++ plain_marks text.now) out.old.items out.new.items) }
@@ -113,7 +110,6 @@ fn cut_kind(kind: &Kind, cut: &mut Cut, out: &mut Vec<u8>) -> Result<(), OutOfMe
 }
 
 /// Appends what is cut of a datatype behind the closing quote of a literal.
-#[tactic(auto, using(list_laws::proofs::Begins::begins_on))]
 fn cut_datatype(text: &str, cut: &mut Cut, out: &mut Vec<u8>) -> Result<(), OutOfMemory>
     ensures ok { OnOk result (CutsMarks cut.old cut.new
         (plain_marks (94 ∷ 94 ∷ 60 ∷ (text.now ++ 62 ∷ []))) out.old.items out.new.items) }
@@ -124,7 +120,6 @@ fn cut_datatype(text: &str, cut: &mut Cut, out: &mut Vec<u8>) -> Result<(), OutO
 }
 
 /// Appends what is cut of a literal.
-#[tactic(auto, using(list_laws::proofs::Begins::begins_on))]
 fn cut_literal(form: &str, kind: &Kind, cut: &mut Cut, out: &mut Vec<u8>) -> Result<(), OutOfMemory>
     ensures ok { OnOk result (CutsMarks cut.old cut.new
         (plain_marks (34 ∷ []) ++ (form_marks form.now
@@ -151,7 +146,6 @@ fn cut_term(term: &Term, cut: &mut Cut, out: &mut Vec<u8>) -> Result<(), OutOfMe
 }
 
 /// Appends what is cut of a term and of what stands behind it.
-#[tactic(auto, using(list_laws::proofs::Begins::begins_on))]
 fn cut_ended(term: &Term, end: &[u8], cut: &mut Cut, out: &mut Vec<u8>) -> Result<(), OutOfMemory>
     ensures ok { OnOk result (CutsMarks cut.old cut.new (ended_marks term.now end.now) out.old.items out.new.items) }
     ensures front { Begins out.old.items out.new.items }
@@ -170,7 +164,6 @@ fn is_short(from: u128, length: u128) -> bool
 }
 
 /// Appends a part of the line of a triple of the table, and tells whether more is left.
-#[tactic(auto, using(list_laws::proofs::Begins::begins_on))]
 fn cut_triple(
     table: &Table,
     ids: IdTriple,

@@ -20,3 +20,29 @@ returns-clause-front c =
     begins_on old two c.append-3.new.out.items
     (begins_on old one two (begins_on old room one (same_begins old room c.in_ok-make_room.ensures.same) c.in_ok-append.ensures.front) c.in_ok-append-2.ensures.front)
     c.in_ok-append-3.ensures.front
+
+pub returns-in_err-make_room-clause-front : goal.returns-in_err-make_room-clause-front
+returns-in_err-make_room-clause-front c = same_begins c.args.out.now.items c.make_room.new.out.items c.in_err-make_room.ensures.same
+
+pub returns-in_err-append-clause-front : goal.returns-in_err-append-clause-front
+returns-in_err-append-clause-front c =
+    let old = c.args.out.now.items in
+    let room = c.make_room.new.out.items in
+    begins_on old room c.append.new.out.items (same_begins old room c.in_ok-make_room.ensures.same) c.in_err-append.ensures.front
+
+pub returns-in_err-append-2-clause-front : goal.returns-in_err-append-2-clause-front
+returns-in_err-append-2-clause-front c =
+    let old = c.args.out.now.items in
+    let room = c.make_room.new.out.items in
+    let one = c.append.new.out.items in
+    begins_on old one c.append-2.new.out.items (begins_on old room one (same_begins old room c.in_ok-make_room.ensures.same) c.in_ok-append.ensures.front) c.in_err-append-2.ensures.front
+
+pub returns-in_err-append-3-clause-front : goal.returns-in_err-append-3-clause-front
+returns-in_err-append-3-clause-front c =
+    let old = c.args.out.now.items in
+    let room = c.make_room.new.out.items in
+    let one = c.append.new.out.items in
+    let two = c.append-2.new.out.items in
+    begins_on old two c.append-3.new.out.items
+    (begins_on old one two (begins_on old room one (same_begins old room c.in_ok-make_room.ensures.same) c.in_ok-append.ensures.front) c.in_ok-append-2.ensures.front)
+    c.in_err-append-3.ensures.front
