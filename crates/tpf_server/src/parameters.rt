@@ -141,8 +141,20 @@ pub fn found_in(alloc: Global, reads_rows: bool, query: &[u8]) -> Result<Paramet
         rows: RowValues::Read(Rows::new(alloc)),
     };
     for pair in form_urlencoded::parse(alloc, query) {
-        let (name, value) = pair?;
-        note_pair(&mut found, alloc, reads_rows, name.as_str(), value.as_str())?;
+        let Ok((name, value)) = pair else {
+            drop(found);
+            return Err(OutOfMemory);
+        };
+        let noted = note_pair(&mut found, alloc, reads_rows, name.as_str(), value.as_str());
+        drop(name);
+        drop(value);
+        match noted {
+            Ok(()) => {}
+            Err(fault) => {
+                drop(found);
+                return Err(fault);
+            }
+        }
     }
     Ok(found)
 }
