@@ -28,5 +28,7 @@ pub fn first_round(
     // That there is a row: contracts see a block as a list.
     let _first = rows.first();
     let (slots, restricted) = selection_of(alloc, pattern, rows)?;
-    forms.first_round(alloc, &slots, restricted.as_slice())
+    let round = forms.first_round(alloc, &slots, restricted.as_slice());
+    drop(slots);
+    round
 }

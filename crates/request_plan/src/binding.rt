@@ -18,10 +18,9 @@ fn bind(alloc: Global, part: &Part, term: Term, mut row: Row) -> Result<Row, Out
     ensures value { IfOk result (λ r. bind part.now term row ≡ Some r) }
     ensures length { IfOk result (λ r. length r ≡ length row) }
 {
-    if let Part::Name(name) = part {
-        if row.term(*name).is_none() {
-            row.bind(alloc, *name, term)?;
-        }
+    match part {
+        Part::Name(name) if row.term(*name).is_none() => row.bind(alloc, *name, term)?,
+        _ => drop(term),
     }
     Ok(row)
 }
@@ -39,8 +38,21 @@ fn bind_all(alloc: Global, pattern: &Pattern, triple: Triple, row: Row) -> Resul
         predicate,
         object,
     } = triple;
-    let begun = bind(alloc, &pattern.subject, subject, row)?;
-    let grown = bind(alloc, &pattern.predicate, predicate, begun)?;
+    let begun = match bind(alloc, &pattern.subject, subject, row) {
+        Ok(begun) => begun,
+        Err(fault) => {
+            drop(predicate);
+            drop(object);
+            return Err(fault);
+        }
+    };
+    let grown = match bind(alloc, &pattern.predicate, predicate, begun) {
+        Ok(grown) => grown,
+        Err(fault) => {
+            drop(object);
+            return Err(fault);
+        }
+    };
     let whole = bind(alloc, &pattern.object, object, grown)?;
     Ok(whole)
 }
@@ -60,8 +72,14 @@ pub(crate) fn extension(
     ensures length { IfOk result (λ o. IfSome o (λ r. length r ≡ length row.now)) }
 {
     if !fits(pattern, row, &triple) {
+        drop(triple);
         return Ok(None);
     }
-    let copy = row.copy(alloc)?;
-    Ok(Some(bind_all(alloc, pattern, triple, copy)?))
+    match row.copy(alloc) {
+        Ok(copy) => Ok(Some(bind_all(alloc, pattern, triple, copy)?)),
+        Err(fault) => {
+            drop(triple);
+            Err(fault)
+        }
+    }
 }

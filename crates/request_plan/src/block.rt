@@ -167,6 +167,8 @@ fn add_places(
     let places = bound_places(alloc, pattern, row)?;
     if !distinct.contains(&places) {
         distinct.push(places)?;
+    } else {
+        drop(places);
     }
     Ok(())
 }
@@ -209,8 +211,8 @@ pub(crate) fn selection_of(
     if block.others.is_empty() {
         return Ok((instance(alloc, pattern, &block.first)?, Vec::new(alloc)));
     }
-    let slots = free_instance(alloc, pattern)?;
-    Ok((slots, distinct_places(alloc, pattern, block)?))
+    let rows = distinct_places(alloc, pattern, block)?;
+    Ok((free_instance(alloc, pattern)?, rows))
 }
 
 // ---- how long a block may be
@@ -229,10 +231,13 @@ impl Target {
         requires { askable (instance pattern.now []) ≡ true }
         ensures { IfOk result (λ t. IsTarget form.now pattern.now [] t) }
     {
-        let address = form.address(alloc, &free_instance(alloc, pattern)?)?;
+        let slots = free_instance(alloc, pattern)?;
+        let address = form.address(alloc, &slots);
+        // Dropped here, so that no exit below has it.
+        drop(slots);
         Ok(Target {
             places: Vec::new(alloc),
-            length: address.target().len(),
+            length: address?.target().len(),
         })
     }
 
@@ -244,10 +249,17 @@ impl Target {
         ensures length { OnOk result
             (self.new.length ≡ min (self.old.length + rows_length (places ∷ [])) (2 ^ 64 - 1)) }
     {
-        let more = row_length(alloc, &places)?;
-        self.places.push(places)?;
-        self.length = self.length.saturating_add(more);
-        Ok(())
+        match row_length(alloc, &places) {
+            Ok(more) => {
+                self.places.push(places)?;
+                self.length = self.length.saturating_add(more);
+                Ok(())
+            }
+            Err(fault) => {
+                drop(places);
+                Err(fault)
+            }
+        }
     }
 
     /// Takes what one more row binds.
@@ -258,6 +270,7 @@ impl Target {
     {
         let places = bound_places(alloc, pattern, row)?;
         if self.places.contains(&places) {
+            drop(places);
             return Ok(());
         }
         self.push(alloc, places)?;

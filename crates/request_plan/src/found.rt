@@ -117,7 +117,9 @@ fn add_triple(
     if block.others().is_empty() {
         return add_extension(alloc, chosen, block.first(), triple, into);
     }
-    add_held(alloc, chosen, block, &triple, into)
+    let added = add_held(alloc, chosen, block, &triple, into);
+    drop(triple);
+    added
 }
 
 /// The rows that the triples of a page make of a block, by the triples in their order and then the

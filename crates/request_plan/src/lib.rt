@@ -8,7 +8,7 @@
 //!
 //! ```rust
 //! let kept = askable_rows(alloc, others, rows)?;
-//! cut_rows(alloc, cut, others, kept)
+//! for block in cut_rows(alloc, cut, others, kept)? {
 //! ```
 #![tactic(auto)]
 

@@ -7,9 +7,9 @@ use Rattle.request_plan.proofs.block.Target.new.Goals as goal
 pub returns : goal.returns
 returns c = record {
   alone = record {
-    address = c.in_ok-address.address;
-    alone = subst (λ (s : Slots). IsAddress (form_text c.args.form.now s) c.in_ok-address.address) c.in_ok-free_instance.ensures c.in_ok-address.ensures.address;
+    address = c.in_ok-address.field-0;
+    alone = subst (λ (s : Slots). IsAddress (form_text c.args.form.now s) c.in_ok-address.field-0) c.in_ok-slots.ensures c.in_ok-address.ensures.address;
   };
   places = c.new.ensures.items;
-  length = let long = ap length c.target.ensures in omega (arith, long);
+  length = let long = ap length c.target-2.ensures in omega (arith, long);
 }
