@@ -26,11 +26,26 @@ fn slot(alloc: Global, part: &Part, row: &Row) -> Result<Slot, OutOfMemory>
 pub fn instance(alloc: Global, pattern: &Pattern, row: &Row) -> Result<Slots, OutOfMemory>
     ensures { IfOk result (λ s. s ≡ instance pattern.now row.now) }
 {
-    Ok(Slots {
-        subject: slot(alloc, &pattern.subject, row)?,
-        predicate: slot(alloc, &pattern.predicate, row)?,
-        object: slot(alloc, &pattern.object, row)?,
-    })
+    let subject = slot(alloc, &pattern.subject, row)?;
+    let predicate = match slot(alloc, &pattern.predicate, row) {
+        Ok(predicate) => predicate,
+        Err(fault) => {
+            drop(subject);
+            return Err(fault);
+        }
+    };
+    match slot(alloc, &pattern.object, row) {
+        Ok(object) => Ok(Slots {
+            subject,
+            predicate,
+            object,
+        }),
+        Err(fault) => {
+            drop(subject);
+            drop(predicate);
+            Err(fault)
+        }
+    }
 }
 
 fn bound_slot(alloc: Global, part: &Part, row: &Row) -> Result<Slot, OutOfMemory>
@@ -47,11 +62,26 @@ fn bound_slot(alloc: Global, part: &Part, row: &Row) -> Result<Slot, OutOfMemory
 pub fn bound_places(alloc: Global, pattern: &Pattern, row: &Row) -> Result<Slots, OutOfMemory>
     ensures { IfOk result (λ s. s ≡ bound_places pattern.now row.now) }
 {
-    Ok(Slots {
-        subject: bound_slot(alloc, &pattern.subject, row)?,
-        predicate: bound_slot(alloc, &pattern.predicate, row)?,
-        object: bound_slot(alloc, &pattern.object, row)?,
-    })
+    let subject = bound_slot(alloc, &pattern.subject, row)?;
+    let predicate = match bound_slot(alloc, &pattern.predicate, row) {
+        Ok(predicate) => predicate,
+        Err(fault) => {
+            drop(subject);
+            return Err(fault);
+        }
+    };
+    match bound_slot(alloc, &pattern.object, row) {
+        Ok(object) => Ok(Slots {
+            subject,
+            predicate,
+            object,
+        }),
+        Err(fault) => {
+            drop(subject);
+            drop(predicate);
+            Err(fault)
+        }
+    }
 }
 
 /// Whether a slot is free or fixed to an IRI.
