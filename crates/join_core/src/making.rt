@@ -67,11 +67,21 @@ pub(crate) fn made_of(
     ensures idle { IfOk result (λ m. AllAreIdle m) }
 {
     let JointPage { triples, next, .. } = page;
-    let after = walk_on(alloc, rows, rest, chosen, pages, next)?;
     let mut opened = Vec::new(alloc);
     let mut out = Vec::new(alloc);
-    let found = expand(alloc, chosen, rows, triples.into_vec())?;
-    add_rows(alloc, cut, rest, found, &mut opened, &mut out)?;
+    let found = match expand(alloc, chosen, rows, triples.into_vec()) {
+        Ok(found) => found,
+        Err(error) => {
+            // One call drops it; a return would drop it part by part.
+            drop(next);
+            return Err(error);
+        }
+    };
+    let Ok(()) = add_rows(alloc, cut, rest, found, &mut opened, &mut out) else {
+        drop(next);
+        return Err(OutOfMemory);
+    };
+    let after = walk_on(alloc, rows, rest, chosen, pages, next)?;
     Ok(Made {
         opened,
         rows: out,
@@ -109,12 +119,12 @@ fn made_of_held(
         next_walk chosen.now.value rest.now.value rows.now pages page.now.next) }
     ensures idle { IfOk result (λ m. AllAreIdle m) }
 {
-    let further = copy_next(alloc, &page.next)?;
-    let after = walk_on(alloc, rows, rest, chosen, pages, further)?;
     let mut opened = Vec::new(alloc);
     let mut out = Vec::new(alloc);
     let found = expand_held(alloc, chosen, rows, page.triples.as_slice())?;
     add_rows(alloc, cut, rest, found, &mut opened, &mut out)?;
+    let further = copy_next(alloc, &page.next)?;
+    let after = walk_on(alloc, rows, rest, chosen, pages, further)?;
     Ok(Made {
         opened,
         rows: out,

@@ -124,7 +124,10 @@ impl Node {
             Progress::Asks(firsts) => {
                 let pattern = self.rest.at(firsts.len());
                 let round = first_round(alloc, forms, pattern, &self.rows)?;
-                firsts.push(First::Out(ticket))?;
+                let Ok(()) = firsts.push(First::Out(ticket)) else {
+                    drop(round);
+                    return Err(OutOfMemory);
+                };
                 Ok(round)
             }
             Progress::Walks(walk) => Ok(walk.next.hand_out(ticket)),
@@ -152,7 +155,7 @@ impl Node {
         requires { IsFirstOf index self.old }
         ensures { self.new ≡ with_first_at index first self.old }
     {
-        let _before = self.swap_first(index, first);
+        drop(self.swap_first(index, first));
     }
 
     /// Writes over what is held of a first page, and gives back what was there.
@@ -162,6 +165,7 @@ impl Node {
         ensures before { result ≡ first_at index self.old }
     {
         let Progress::Asks(firsts) = &mut self.progress else {
+            drop(first);
             return None;
         };
         Some(mem::replace(&mut firsts[index], first))
@@ -200,6 +204,23 @@ impl Node {
     }
 }
 
+/// What a node that walks has of the node before it: its rows, the patterns that are left, and the
+/// chosen one.
+fn parts_of_walk(
+    alloc: Global,
+    rows: &RowBlock,
+    rest: &Rc<PatternList>,
+    chosen: &Rc<Pattern>,
+) -> Result<(RowBlock, Rc<PatternList>, Rc<Pattern>), OutOfMemory>
+    ensures rows { IfOk result (λ parts. parts.0 ≡ rows.now) }
+    ensures rest { IfOk result (λ parts. parts.1.value ≡ rest.now.value) }
+    ensures chosen { IfOk result (λ parts. parts.2.value ≡ chosen.now.value) }
+{
+    let rest = rest.clone()?;
+    let chosen = chosen.clone()?;
+    Ok((rows.copy(alloc)?, rest, chosen))
+}
+
 /// The node that walks over the pages of the chosen pattern, from a round on.
 pub(crate) fn walking(
     alloc: Global,
@@ -214,16 +235,25 @@ pub(crate) fn walking(
     ensures { IfOk result (λ n. n ≡
         node rows.now rest.now.value (Walking chosen.now.value pages round None)) }
 {
-    let walk = Walk {
-        chosen: chosen.clone()?,
-        pages,
-        next: NextPage::Held(round),
-    };
-    Ok(Node {
-        rows: rows.copy(alloc)?,
-        rest: rest.clone()?,
-        progress: Progress::Walks(walk),
-    })
+    match parts_of_walk(alloc, rows, rest, chosen) {
+        Ok((rows, rest, chosen)) => {
+            let walk = Walk {
+                chosen,
+                pages,
+                next: NextPage::Held(round),
+            };
+            Ok(Node {
+                rows,
+                rest,
+                progress: Progress::Walks(walk),
+            })
+        }
+        Err(error) => {
+            // One call drops it; a return would drop it part by part.
+            drop(round);
+            Err(error)
+        }
+    }
 }
 
 impl Node {
@@ -241,6 +271,7 @@ impl Node {
         ensures idle { IfOk result (λ m. AllAreIdle m) }
     {
         let Progress::Walks(walk) = &self.progress else {
+            drop(page);
             return Ok(nothing(alloc));
         };
         let pages = walk.pages.saturating_add(1);
@@ -281,7 +312,13 @@ impl Node {
             1 (chosen_page page) m) }
         ensures idle { IfOk result (λ m. AllAreIdle m) }
     {
-        let rest = self.others(alloc, index)?;
+        let rest = match self.others(alloc, index) {
+            Ok(rest) => rest,
+            Err(error) => {
+                drop(page);
+                return Err(error);
+            }
+        };
         let page = chosen_part(alloc, page);
         made_of(alloc, cut, &self.rows, &rest, self.rest.at(index), 1, page)
     }

@@ -19,7 +19,7 @@ expand-requires c =
 
 pub add_rows-requires : goal.add_rows-requires
 add_rows-requires c =
-    let e : c.in_ok-found.found.items ≡ found c.args.chosen.now.value c.args.rows.now c.args.page.triples = search rules in
+    let e : c.in-Ok.found.items ≡ found c.args.chosen.now.value c.args.rows.now c.args.page.triples = search rules in
     subst (λ (l : List Places). HavePlacesFor c.args.rest.now.value l) (sym e) (found-places c.args.rest.now.value c.args.chosen.now.value c.args.rows.now c.args.page.triples c.requires.places)
 
 pub returns-clause-idle : goal.returns-clause-idle

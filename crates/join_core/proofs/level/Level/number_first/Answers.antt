@@ -28,4 +28,4 @@ pub returns-clause-first : goal.returns-clause-first
 returns-clause-first c =
     let idle : is_idle c.in_ok-node.node ≡ true = ap is_idle c.in_ok-node.ensures in
     let busy : All (λ n. is_idle n ≡ false) (values_of c.self.inside.started.entries) = subst (λ (l : LevelData). All (λ n. is_idle n ≡ false) (values_of l.started)) (sym c.self.view_is) c.requires.busy in
-    begun-first c.self.inside.next c.in_ok-node.node c.self.inside.started c.begin.new.started c.pop_front-moved.new.self.items c.self.invariant.below busy c.in_ok-begin.ensures.entries c.in_ok-begin.ensures.noted.now idle c.idle_can_ask.ensures
+    begun-first c.self.inside.next c.in_ok-node.node c.self.inside.started c.begin.new.started c.pop_front.new.self.items c.self.invariant.below busy c.in_ok-begin.ensures.entries c.in_ok-begin.ensures.noted.now idle c.idle_can_ask.ensures

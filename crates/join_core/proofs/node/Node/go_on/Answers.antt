@@ -11,4 +11,4 @@ made_of-requires-clause-chosen c =
     (λ p e. c.at.ensures p (e ∙ ap (λ l. get_or l c.args.index p) (sym c.deref.ensures)))
 
 pub made_of-requires-clause-places : goal.made_of-requires-clause-places
-made_of-requires-clause-places c = subst (λ (n : NodeData). HavePlacesFor c.in_ok-rest.rest.value n.rows) (sym c.self.view_is) c.in_ok-rest.ensures.places
+made_of-requires-clause-places c = subst (λ (n : NodeData). HavePlacesFor c.in-Ok.rest.value n.rows) (sym c.self.view_is) c.in-Ok.ensures.places
