@@ -16,5 +16,6 @@ pub mod Authorities
 pub mod Answered
 pub mod Histories
 pub mod ReadTemplates
+pub mod Expansions
 pub mod ReadRows
 pub mod FirstPages

@@ -25,7 +25,7 @@ use Rattle.rdf_terms.specs.Valid.{IsValidKind}
 use Rattle.rdf_terms.proofs.Lengths.{canonical_len_is}
 use Rattle.template_fill.specs.declared.fault.ValueFault.{ValueFault}
 use Rattle.template_fill.specs.declared.fault.ValueFault.TheVariants as faults
-use Rattle.template_fill.specs.Explicit.{Gives, ReadsBack, FormsAreText, FormsAreShort, suffix, explicit_form, cut_last, marked_literal, suffixed_literal, read_literal, read_iri, fixed, slot_of}
+use Rattle.template_fill.specs.Explicit.{Gives, ReadsBack, FormsAreText, FormsAreShort, suffix, explicit_form, cut_last, tagged_literal, typed_literal, marked_literal, suffixed_literal, read_literal, read_iri, fixed, slot_of}
 use Rattle.template_fill.proofs.Passing.{list_all-get, list_all-wider}
 use Rattle.std.proofs.lemmas.Bool.{and_from, not-true}
 
@@ -37,6 +37,19 @@ other b c h = grind (arith, nat_tests)
 pub marked-none : (form rest : List ℕ) → ((more : List ℕ) → rest ≡ 94 ∷ more → ⊥) → marked_literal form rest ≡ Err faults.Suffix
 marked-none form [] none = refl
 marked-none form (b ∷ rest) none = rw (other b 94 (λ is. none rest (ap (λ x. x ∷ rest) is))) refl
+
+pub marked-some : (form rest datatype : List ℕ) → rest ≡ 94 ∷ datatype → marked_literal form rest ≡ typed_literal form datatype
+marked-some form rest datatype is = rw is refl
+
+pub suffixed-empty : (form rest : List ℕ) → true ≡ (length rest == 0) → suffixed_literal form rest ≡ Ok (Literal form Plain)
+suffixed-empty form [] none = refl
+suffixed-empty form (b ∷ rest) none = absurd (grind (arith, nat_tests))
+
+pub suffixed-tagged : (form rest tag : List ℕ) → rest ≡ 64 ∷ tag → suffixed_literal form rest ≡ tagged_literal form tag
+suffixed-tagged form rest tag is = rw is refl
+
+pub suffixed-marked : (form rest more : List ℕ) → rest ≡ 94 ∷ more → suffixed_literal form rest ≡ marked_literal form more
+suffixed-marked form rest more is = rw is refl
 
 pub suffixed-none : (form rest : List ℕ) → false ≡ (length rest == 0) → ((more : List ℕ) → rest ≡ 64 ∷ more → ⊥) → ((more : List ℕ) → rest ≡ 94 ∷ more → ⊥) → suffixed_literal form rest ≡ Err faults.Suffix
 suffixed-none form [] some tag datatype = absurd (cc)

@@ -16,7 +16,7 @@ use std::marker::Model;
 use tpf_base::Text;
 
 /// What an expression writes before its first pair (RFC 6570, sections 3.2.8 and 3.2.9).
-#[derive(Clone, Copy, Debug, PartialEq, Eq)]
+#[derive(Clone, Copy, Debug)]
 pub enum Operator {
     /// `{?names}`, the form-style query expansion.
     Query,

@@ -112,10 +112,17 @@ fn read_first_places(
     let Some(subject) = read_place(alloc, subject)? else {
         return Ok(None);
     };
-    let Some(predicate) = read_place(alloc, predicate)? else {
-        return Ok(None);
-    };
-    Ok(Some((subject, predicate)))
+    match read_place(alloc, predicate) {
+        Ok(Some(predicate)) => Ok(Some((subject, predicate))),
+        Ok(None) => {
+            drop(subject);
+            Ok(None)
+        }
+        Err(fault) => {
+            drop(subject);
+            Err(fault)
+        }
+    }
 }
 
 /// The three texts between exactly two commas.
@@ -145,12 +152,21 @@ pub fn read_row(alloc: Global, text: &str) -> Result<Option<Slots>, OutOfMemory>
     let Some((subject, predicate)) = read_first_places(alloc, subject, predicate)? else {
         return Ok(None);
     };
-    let Some(object) = read_place(alloc, object)? else {
-        return Ok(None);
-    };
-    Ok(Some(Slots {
-        subject,
-        predicate,
-        object,
-    }))
+    match read_place(alloc, object) {
+        Ok(Some(object)) => Ok(Some(Slots {
+            subject,
+            predicate,
+            object,
+        })),
+        Ok(None) => {
+            drop(subject);
+            drop(predicate);
+            Ok(None)
+        }
+        Err(fault) => {
+            drop(subject);
+            drop(predicate);
+            Err(fault)
+        }
+    }
 }
