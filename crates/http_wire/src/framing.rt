@@ -124,7 +124,7 @@ fn are_all(head: &[u8], headers: &[HeaderSpan], name: &[u8], value: &[u8]) -> bo
 }
 
 /// How a reply goes on behind a final head.
-#[derive(Clone, Copy, Debug, PartialEq, Eq)]
+#[derive(Clone, Copy)]
 pub enum Next {
     Refused(ReplyFault),
     /// An empty body, and whether the connection may be kept.

@@ -12,7 +12,7 @@ use crate::message::ReplyFault;
 use tpf_base::{HEADS_LIMIT, LINE_LIMIT, PADDING_LIMIT};
 
 /// Where in a reply the bytes so far end.
-#[derive(Clone, Copy, Debug, PartialEq, Eq)]
+#[derive(Clone, Copy, PartialEq, Eq)]
 pub enum Stage {
     /// In a head, which is held.
     Heads,
@@ -35,7 +35,7 @@ pub enum Stage {
 }
 
 /// Where the bytes belong that were read last.
-#[derive(Clone, Copy, Debug, PartialEq, Eq)]
+#[derive(Clone, Copy)]
 pub enum Part {
     /// To the body.
     Body,

@@ -8,7 +8,7 @@ use crate::link::Peer;
 use std::marker::Model;
 
 /// The door, which is the listener. Contracts see what is told of it; its counts stop at 2^64 - 1.
-#[derive(Debug, Drop)]
+#[derive(Drop)]
 pub struct ScriptDoor {
     place: Option<Peer>,
     stalls: u64,

@@ -10,21 +10,21 @@ use std::marker::Model;
 use tpf_base::{Failures, Moved, OutOfMemory, Text};
 
 /// The host and the port for which a link was dialled.
-#[derive(Debug, Drop)]
+#[derive(Drop)]
 pub struct Peer {
     pub host: Text,
     pub port: u16,
 }
 
 /// What a call on a link does with bytes.
-#[derive(Clone, Copy, Debug)]
+#[derive(Clone, Copy)]
 pub enum Side {
     Sending,
     Receiving,
 }
 
 /// A link that was given. Contracts see what is told of it, and where in its script it stands.
-#[derive(Debug, Drop)]
+#[derive(Drop)]
 pub struct ScriptLink {
     peer: Option<Peer>,
     sent: Vec<u8>,

@@ -8,7 +8,7 @@ use crate::{Bytes, Failing, Failures, Fault, Names, Shelf, Text};
 use std::alloc::Global;
 
 /// A file that was found: which of the contents, and how many of its bytes were read.
-#[derive(Clone, Copy, Debug)]
+#[derive(Clone, Copy)]
 pub struct Opened {
     which: usize,
     at: usize,
