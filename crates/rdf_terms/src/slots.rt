@@ -3,7 +3,7 @@ ghost use Rattle.std.specs.Prelude.{◌≡◌, ◌↔◌, IfOk, IsTrue};
 
 use crate::{Term, Triple};
 use std::alloc::Global;
-use text_base::OutOfMemory;
+use text_base::{OutOfMemory, all_three};
 
 /// One place of a triple pattern: free (a variable), or fixed to a term.
 #[derive(PartialEq, Eq, Debug, Drop)]
@@ -52,10 +52,14 @@ impl Slots {
     pub fn copy(&self, alloc: Global) -> Result<Slots, OutOfMemory>
         ensures { IfOk result (λ t. t ≡ self.now) }
     {
+        let subject = self.subject.copy(alloc);
+        let predicate = self.predicate.copy(alloc);
+        let object = self.object.copy(alloc);
+        let (subject, predicate, object) = all_three(subject, predicate, object)?;
         Ok(Slots {
-            subject: self.subject.copy(alloc)?,
-            predicate: self.predicate.copy(alloc)?,
-            object: self.object.copy(alloc)?,
+            subject,
+            predicate,
+            object,
         })
     }
 

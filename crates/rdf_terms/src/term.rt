@@ -11,7 +11,7 @@ use crate::label::is_label;
 use crate::tag::{is_tag, lowered};
 use crate::{Datatype, IriText, Label, Tag};
 use std::alloc::Global;
-use text_base::{OutOfMemory, Text};
+use text_base::{OutOfMemory, Text, all_three};
 
 /// The kind of a literal (RDF 1.1 Concepts 3.3): plain, whose datatype is xsd:string; typed; or tagged, whose datatype is
 /// rdf:langString.
@@ -188,10 +188,14 @@ impl Triple {
     pub fn copy(&self, alloc: Global) -> Result<Triple, OutOfMemory>
         ensures { IfOk result (λ t. t ≡ self.now) }
     {
+        let subject = self.subject.copy(alloc);
+        let predicate = self.predicate.copy(alloc);
+        let object = self.object.copy(alloc);
+        let (subject, predicate, object) = all_three(subject, predicate, object)?;
         Ok(Triple {
-            subject: self.subject.copy(alloc)?,
-            predicate: self.predicate.copy(alloc)?,
-            object: self.object.copy(alloc)?,
+            subject,
+            predicate,
+            object,
         })
     }
 

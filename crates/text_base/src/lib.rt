@@ -1,4 +1,5 @@
-//! A text that contracts see as its bytes, and the one error of what takes memory.
+//! A text that contracts see as its bytes, and the one error of what takes memory, with the call that asks for three values
+//! at once where each may have wanted it.
 //!
 //! ```rust
 //! let name = Text::copy(alloc, "a.nq")?;
@@ -10,5 +11,5 @@
 mod memory;
 mod text;
 
-pub use memory::OutOfMemory;
+pub use memory::{OutOfMemory, all_three};
 pub use text::Text;

@@ -58,6 +58,6 @@ pub use send::{Halt, send_rest};
 pub use shelf::{FileFault, Shelf, read_file};
 pub use sink::{Sink, write_all};
 pub use steps::Steps;
-pub use text_base::{OutOfMemory, Text};
+pub use text_base::{OutOfMemory, Text, all_three};
 pub use usual::{USUAL_BODY, USUAL_BUDGET, USUAL_LINKS, USUAL_PAGE, USUAL_RETRIES, USUAL_WINDOW};
 pub use wire::{Accept, Dial, MOST_IDLE, Moved, Ready, Wire};

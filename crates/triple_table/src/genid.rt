@@ -6,7 +6,7 @@ ghost use Rattle.triple_table.specs.Genid.{genid, skolem, skolem_triple};
 
 use rdf_terms::{IriText, Term, Triple};
 use std::alloc::Global;
-use tpf_base::{OutOfMemory, Text};
+use tpf_base::{OutOfMemory, Text, all_three};
 
 const SCHEME: &str = "http://";
 
@@ -53,27 +53,15 @@ pub(crate) fn skolem_triple(
     requires authority { IsAuthority authority.now }
     ensures { IfOk result (λ t. t ≡ skolem_triple authority.now triple.now) }
 {
-    let subject = skolem(alloc, authority, &triple.subject)?;
-    let predicate = match skolem(alloc, authority, &triple.predicate) {
-        Ok(predicate) => predicate,
-        Err(fault) => {
-            // Dropped here, so that no exit below has it.
-            drop(subject);
-            return Err(fault);
-        }
-    };
-    match skolem(alloc, authority, &triple.object) {
-        Ok(object) => Ok(Triple {
-            subject,
-            predicate,
-            object,
-        }),
-        Err(fault) => {
-            drop(subject);
-            drop(predicate);
-            Err(fault)
-        }
-    }
+    let subject = skolem(alloc, authority, &triple.subject);
+    let predicate = skolem(alloc, authority, &triple.predicate);
+    let object = skolem(alloc, authority, &triple.object);
+    let (subject, predicate, object) = all_three(subject, predicate, object)?;
+    Ok(Triple {
+        subject,
+        predicate,
+        object,
+    })
 }
 
 /// What follows this prefix in a text that begins with it.
