@@ -6,7 +6,7 @@ ghost use Rattle.bgp_core.specs.Instances.{slot, instance, bound_slot, bound_pla
 use crate::{Part, Pattern, Row};
 use rdf_terms::{Slot, Slots, Term};
 use std::alloc::Global;
-use text_base::OutOfMemory;
+use text_base::{OutOfMemory, all_three};
 
 fn slot(alloc: Global, part: &Part, row: &Row) -> Result<Slot, OutOfMemory>
     ensures { IfOk result (λ s. s ≡ slot row.now part.now) }
@@ -26,26 +26,15 @@ fn slot(alloc: Global, part: &Part, row: &Row) -> Result<Slot, OutOfMemory>
 pub fn instance(alloc: Global, pattern: &Pattern, row: &Row) -> Result<Slots, OutOfMemory>
     ensures { IfOk result (λ s. s ≡ instance pattern.now row.now) }
 {
-    let subject = slot(alloc, &pattern.subject, row)?;
-    let predicate = match slot(alloc, &pattern.predicate, row) {
-        Ok(predicate) => predicate,
-        Err(fault) => {
-            drop(subject);
-            return Err(fault);
-        }
-    };
-    match slot(alloc, &pattern.object, row) {
-        Ok(object) => Ok(Slots {
-            subject,
-            predicate,
-            object,
-        }),
-        Err(fault) => {
-            drop(subject);
-            drop(predicate);
-            Err(fault)
-        }
-    }
+    let subject = slot(alloc, &pattern.subject, row);
+    let predicate = slot(alloc, &pattern.predicate, row);
+    let object = slot(alloc, &pattern.object, row);
+    let (subject, predicate, object) = all_three(subject, predicate, object)?;
+    Ok(Slots {
+        subject,
+        predicate,
+        object,
+    })
 }
 
 fn bound_slot(alloc: Global, part: &Part, row: &Row) -> Result<Slot, OutOfMemory>
@@ -62,26 +51,15 @@ fn bound_slot(alloc: Global, part: &Part, row: &Row) -> Result<Slot, OutOfMemory
 pub fn bound_places(alloc: Global, pattern: &Pattern, row: &Row) -> Result<Slots, OutOfMemory>
     ensures { IfOk result (λ s. s ≡ bound_places pattern.now row.now) }
 {
-    let subject = bound_slot(alloc, &pattern.subject, row)?;
-    let predicate = match bound_slot(alloc, &pattern.predicate, row) {
-        Ok(predicate) => predicate,
-        Err(fault) => {
-            drop(subject);
-            return Err(fault);
-        }
-    };
-    match bound_slot(alloc, &pattern.object, row) {
-        Ok(object) => Ok(Slots {
-            subject,
-            predicate,
-            object,
-        }),
-        Err(fault) => {
-            drop(subject);
-            drop(predicate);
-            Err(fault)
-        }
-    }
+    let subject = bound_slot(alloc, &pattern.subject, row);
+    let predicate = bound_slot(alloc, &pattern.predicate, row);
+    let object = bound_slot(alloc, &pattern.object, row);
+    let (subject, predicate, object) = all_three(subject, predicate, object)?;
+    Ok(Slots {
+        subject,
+        predicate,
+        object,
+    })
 }
 
 /// Whether a slot is free or fixed to an IRI.
