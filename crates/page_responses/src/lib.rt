@@ -6,15 +6,21 @@
 //!
 //! ```rust
 //! let answer = open_answer(alloc, config, &queued.asking)?;
-//! write_answer_head(
+//! let written = write_answer_head(
 //!     alloc,
 //!     answer.status,
 //!     answer.media,
 //!     answer.length,
 //!     queued.closes,
 //!     out,
-//! )?;
-//! Ok(body_or_nothing(queued.without_body, answer.body))
+//! );
+//! match written {
+//!     Ok(()) => Ok(body_or_nothing(queued.without_body, answer.body)),
+//!     Err(fault) => {
+//!         drop(answer);
+//!         Err(fault)
+//!     }
+//! }
 //! ```
 #![tactic(auto)]
 

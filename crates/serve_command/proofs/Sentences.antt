@@ -16,6 +16,7 @@ use Rattle.tpf_base.specs.Outside.{ShelfState, AsksOnce}
 use Rattle.tpf_base.specs.Wrote.{SinkState, AppendsPrefix}
 use Rattle.connections.specs.Kinds.{Kind}
 use Rattle.connections.specs.Versions.{Serving, IsHistory}
+use Rattle.serve_loop.proofs.ReloadLemmas.{same_count}
 use Rattle.serve_loop.specs.declared.live.Served.{Served}
 use Rattle.serve_loop.specs.declared.live.ServeFault.{ServeFault}
 use Rattle.serve_loop.specs.declared.live.ServeFault.TheVariants as loop_faults
@@ -208,9 +209,6 @@ reloads_none old new name choice config none h = λ some. absurd (some (missing 
 pub follows : (told : Option Files) (name : List ℕ) (choice : Choice) (config : Config) → is_some config.reload ≡ true → (triples : List Triple) → IsOfFile told name choice (authority_of config.base) triples → MayFollow told name choice config triples
 follows told name choice config some = λ triples h. (there config.reload some, h)
 
-pub not_more : (n : ℕ) → n ≤ n
-not_more n = omega arith
-
 -- ---- the service of links, of more data sets that may follow, and for another reason
 
 pub serves_links_from : (may other : List Triple → Type 0) → ((d : List Triple) → may d → other d) → (Reason Other : Type 0) → (Reason → Other)
@@ -219,7 +217,7 @@ pub serves_links_from : (may other : List Triple → Type 0) → ((d : List Trip
 serves_links_from may other weaker Reason Other reason server stop_after old new result s = record {
   alone = s.alone;
   prefixes = prefixes_from may other weaker Reason Other reason server old old new refl s.prefixes;
-  whole = if_ok_map _ _ result (λ n w. whole_from may other weaker Reason Other reason server old old new refl old.faults old.faults n (not_more old.faults) w) s.whole;
+  whole = if_ok_map _ _ result (λ n w. whole_from may other weaker Reason Other reason server old old new refl old.faults old.faults n (same_count old.faults) w) s.whole;
   ends = s.ends;
   turns = s.turns;
   err = s.err;
@@ -363,7 +361,7 @@ module _ (shelf mid shelf' : ShelfState) (first : KeepsShelf shelf mid) (name : 
     prefixes_of_file (inr s) = inr (record { server = server; starts = starts; services = prefixes_from (MayFollow mid.told name choice server.config) (MayFollow shelf.told name choice config) (follow_by shelf.told mid.told name choice server.config config first.told starts.config_is) (FailedReload mid shelf' name choice server.config) (FailedShelf shelf shelf' config) reason server old old new refl s })
 
     pub whole_of_file : (faults : ℕ) (result : Result ℕ ServiceFault) → IfOk result (λ n. Services server old new (FailedReload mid shelf' name choice server.config) (SaysWhole faults n (MayFollow mid.told name choice server.config))) → IfOk result (λ n. SpeaksOfFile shelf shelf' name choice config old new (SaysWhole faults n))
-    whole_of_file faults (Ok n) s = record { server = server; starts = starts; services = whole_from (MayFollow mid.told name choice server.config) (MayFollow shelf.told name choice config) (follow_by shelf.told mid.told name choice server.config config first.told starts.config_is) (FailedReload mid shelf' name choice server.config) (FailedShelf shelf shelf' config) reason server old old new refl faults faults n (not_more faults) s }
+    whole_of_file faults (Ok n) s = record { server = server; starts = starts; services = whole_from (MayFollow mid.told name choice server.config) (MayFollow shelf.told name choice config) (follow_by shelf.told mid.told name choice server.config config first.told starts.config_is) (FailedReload mid shelf' name choice server.config) (FailedShelf shelf shelf' config) reason server old old new refl faults faults n (same_count faults) s }
     whole_of_file faults (Err fault) s = tt
 
 module _ (told : Option Files) (name : List ℕ) (choice : Choice) (config : Config) (server : Serving (List Triple) Config) (starts : Starts told name choice config server) where
