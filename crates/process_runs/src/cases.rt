@@ -128,8 +128,13 @@ fn answer_across_a_reload<R: Processes + Files + Net + Print + AllocGlobal>(
     port: u16,
 ) -> io::Result<Output> {
     let mut client = start(rt, &["query", base, "all.rq"], &["--links", "1"])?;
-    read_and_reload(rt, port, &mut client)?;
-    client.wait_with_output(rt.alloc())
+    match read_and_reload(rt, port, &mut client) {
+        Ok(()) => client.wait_with_output(rt.alloc()),
+        Err(error) => {
+            drop(client);
+            Err(error)
+        }
+    }
 }
 
 /// Prints whether an answer is whole, and how the client ended.
@@ -183,7 +188,7 @@ fn pass_budget<R: Processes + Files + Print + AllocGlobal>(rt: &R) -> io::Result
 type Case = (&'static str, Served<'static>);
 
 /// The cases over a server that is asked as it should be.
-const PLAIN: [Case; 5] = [
+static PLAIN: [Case; 5] = [
     (
         "a query",
         Served {
@@ -232,7 +237,7 @@ const PLAIN: [Case; 5] = [
 ];
 
 /// Connections at once.
-const CONNECTIONS: [Case; 1] = [(
+static CONNECTIONS: [Case; 1] = [(
     "three connections, of which one is reset and one refused",
     Served {
         file: "people.nq",
@@ -243,7 +248,7 @@ const CONNECTIONS: [Case; 1] = [(
 )];
 
 /// An address that is taken, and a file that can't be read again.
-const ADDRESSES: [Case; 2] = [
+static ADDRESSES: [Case; 2] = [
     (
         "a server at an address that is taken",
         Served {

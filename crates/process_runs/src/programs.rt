@@ -49,7 +49,9 @@ pub fn start<R: Processes + Files + AllocGlobal>(
     options: &[&str],
 ) -> io::Result<Child<R::Started>> {
     let mut command = this_program(rt)?;
-    start_with(rt, &mut command, words, options)
+    let started = start_with(rt, &mut command, words, options);
+    drop(command);
+    started
 }
 
 /// How this program ended that was started with words and then options, and what it wrote.
@@ -145,10 +147,16 @@ fn server_at<R: Processes + Files + AllocGlobal>(
 
 /// Waits until a server can be asked, or gives `None` where it can't listen at its port.
 fn once_begun<P: OpenProcess + Drop>(mut server: Server<P>) -> io::Result<Option<Server<P>>> {
-    if begins(&mut server.child)? {
-        Ok(Some(server))
-    } else {
-        Ok(None)
+    match begins(&mut server.child) {
+        Ok(true) => Ok(Some(server)),
+        Ok(false) => {
+            drop(server);
+            Ok(None)
+        }
+        Err(error) => {
+            drop(server);
+            Err(error)
+        }
     }
 }
 

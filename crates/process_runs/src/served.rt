@@ -12,7 +12,7 @@ use std::time::Clock;
 use std::{fs, io};
 
 /// What is asked of a server.
-#[derive(Drop)]
+#[derive(Clone, Copy)]
 pub enum Talk<'a> {
     /// A query.
     Query,
@@ -35,7 +35,7 @@ pub enum Talk<'a> {
 }
 
 /// A server, and what is asked of it.
-#[derive(Drop)]
+#[derive(Clone, Copy)]
 pub struct Served<'a> {
     /// The file that it serves.
     pub file: &'a str,
