@@ -21,14 +21,21 @@ impl Outcome {
     /// Before a run whose output and standard error fail so.
     pub fn new(alloc: Global, out: Failure, err: Failure) -> Result<Box<Outcome>, CaseFault> {
         let out = out.sink(alloc)?;
-        let err = err.sink(alloc)?;
-        let outcome = Outcome {
-            status: 0,
-            out,
-            err,
-            sent: None,
-        };
-        Ok(Box::new(alloc, outcome)?)
+        match err.sink(alloc) {
+            Ok(err) => {
+                let outcome = Outcome {
+                    status: 0,
+                    out,
+                    err,
+                    sent: None,
+                };
+                Ok(Box::new(alloc, outcome)?)
+            }
+            Err(fault) => {
+                drop(out);
+                Err(fault)
+            }
+        }
     }
 
     /// Whether the run ended with this status, and said this on the standard error.
@@ -88,9 +95,9 @@ pub fn show_of(alloc: Global, case: &mut Case<'_>) -> Result<Box<Show>, CaseFaul
     let is_sorted = case.flag("sorted")?;
     let has_wire = has_wire_of(alloc, case)?;
     let traffic = traffic_of(case)?;
-    let count = case.text_if(alloc, "count")?;
     let said = case.texts(alloc, "said")?;
     let order = case.texts(alloc, "order")?;
+    let count = case.text_if(alloc, "count")?;
     let show = Show {
         is_sorted,
         has_wire,

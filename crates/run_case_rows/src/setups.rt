@@ -168,6 +168,9 @@ fn lay_written<P: Runs>(
     push_file(alloc, "d", made.out.taken(), &mut setup.files)
 }
 
+/// A member, and the name of the file that has its bytes.
+static FILES: [(&str, &str); 3] = [("data", "d"), ("query", "q"), ("dash", "-")];
+
 /// `data`, `query`, `dash`, `data_of`: lays the files of a run.
 fn lay_all<P: Runs>(
     program: &P,
@@ -175,8 +178,8 @@ fn lay_all<P: Runs>(
     case: &mut Case<'_>,
     setup: &mut Setup,
 ) -> Result<(), CaseFault> {
-    for (member, name) in [("data", "d"), ("query", "q"), ("dash", "-")] {
-        lay(alloc, case, member, name, setup)?;
+    for (member, name) in &FILES {
+        lay(alloc, case, *member, *name, setup)?;
     }
     match case.text_if(alloc, "data_of")? {
         Some(line) => lay_written(program, alloc, line, setup),
