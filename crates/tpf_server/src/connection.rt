@@ -133,7 +133,14 @@ impl Connection {
         let mut requests = mem::replace(&mut self.requests, RequestFeed::new(self.alloc));
         let mut debt = mem::replace(&mut self.debt, Debt::new(self.alloc));
         requests.feed(piece)?;
-        let reading = debt.read_heads(self.alloc, server, &mut requests)?;
+        let reading = match debt.read_heads(self.alloc, server, &mut requests) {
+            Ok(reading) => reading,
+            Err(fault) => {
+                // Dropped here, so that no other way out has it.
+                drop(debt);
+                return Err(fault);
+            }
+        };
         self.requests = remaining_feed(self.alloc, requests, reading.is_ended());
         self.debt = debt;
         self.reading = reading;
@@ -217,7 +224,13 @@ impl Connection {
     {
         let mut requests = mem::replace(&mut self.requests, RequestFeed::new(self.alloc));
         let mut debt = mem::replace(&mut self.debt, Debt::new(self.alloc));
-        let reading = debt.read_on(self.alloc, server, outcome, closes, &mut requests)?;
+        let reading = match debt.read_on(self.alloc, server, outcome, closes, &mut requests) {
+            Ok(reading) => reading,
+            Err(fault) => {
+                drop(debt);
+                return Err(fault);
+            }
+        };
         self.requests = remaining_feed(self.alloc, requests, reading.is_ended());
         self.debt = debt;
         self.reading = reading;

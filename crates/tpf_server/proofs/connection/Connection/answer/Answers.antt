@@ -10,7 +10,7 @@ read_on-requires c = ap (λ (h : Held). h.refused) c.replace-requests.ensures.va
 
 pub remaining_feed-requires : goal.remaining_feed-requires
 remaining_feed-requires c =
-    reload_open c.args.server.now c.args.outcome c.args.closes c.replace-requests.result.bytes c.replace-debt.result.waiting.items c.read_on.new.self.waiting.items c.in_ok-reading.reading c.read_on.new.requests c.is_ended.result c.is_ended.ensures c.in_ok-reading.ensures.ok
+    reload_open c.args.server.now c.args.outcome c.args.closes c.replace-requests.result.bytes c.replace-debt.result.waiting.items c.read_on.new.self.waiting.items c.in-Ok.reading c.read_on.new.requests c.is_ended.result c.is_ended.ensures c.in-Ok.ensures.ok
 
 -- after want of memory nothing is owed
 pub invariant_of-self : goal.invariant_of-self
@@ -25,16 +25,16 @@ pub invariant_of-self-2 : goal.invariant_of-self-2
 invariant_of-self-2 c = (
   c.self.invariant.0,
   kept_open c.is_ended.result c.remaining_feed.result c.read_on.new.requests c.remaining_feed.ensures.ended c.remaining_feed.ensures.open_
-      (reload_open c.args.server.now c.args.outcome c.args.closes c.replace-requests.result.bytes c.replace-debt.result.waiting.items c.read_on.new.self.waiting.items c.in_ok-reading.reading c.read_on.new.requests c.is_ended.result c.is_ended.ensures c.in_ok-reading.ensures.ok),
-  reload_fits c.args.server.now c.args.outcome c.args.closes c.replace-requests.result.bytes c.replace-debt.result.rest c.read_on.new.self.rest c.replace-debt.result.waiting.items c.read_on.new.self.waiting.items c.in_ok-reading.reading c.read_on.new.requests
+      (reload_open c.args.server.now c.args.outcome c.args.closes c.replace-requests.result.bytes c.replace-debt.result.waiting.items c.read_on.new.self.waiting.items c.in-Ok.reading c.read_on.new.requests c.is_ended.result c.is_ended.ensures c.in-Ok.ensures.ok),
+  reload_fits c.args.server.now c.args.outcome c.args.closes c.replace-requests.result.bytes c.replace-debt.result.rest c.read_on.new.self.rest c.replace-debt.result.waiting.items c.read_on.new.self.waiting.items c.in-Ok.reading c.read_on.new.requests
       (same_fits c.self.inside.debt.rest c.replace-debt.result.rest c.self.inside.debt.waiting.items c.replace-debt.result.waiting.items (ap (λ (d : Debt). d.rest) c.replace-debt.ensures.value) (ap (λ (d : Debt). d.waiting.items) c.replace-debt.ensures.value) c.self.invariant.2)
-      c.in_ok-reading.ensures.rest c.in_ok-reading.ensures.ok,
+      c.in-Ok.ensures.rest c.in-Ok.ensures.ok,
   c.self.invariant.3,
 )
 
 pub returns-clause-ok : goal.returns-clause-ok
 returns-clause-ok c =
     reloads c.args.server.now c.args.outcome c.self.inside.requests.bytes c.replace-debt.result.rest c.read_on.new.self.rest c.replace-debt.result.waiting.items c.read_on.new.self.waiting.items (drop c.self.inside.given c.self.inside.bytes.items) c.self.inside.starved c.args.closes
-    c.self.inside.reading c.in_ok-reading.reading c.replace-requests.result c.read_on.new.requests c.remaining_feed.result c.args.self.now
+    c.self.inside.reading c.in-Ok.reading c.replace-requests.result c.read_on.new.requests c.remaining_feed.result c.args.self.now
     (ap (λ (d : Debt). conversation c.self.inside.requests.bytes c.self.inside.reading d.rest d.waiting.items (drop c.self.inside.given c.self.inside.bytes.items) c.self.inside.starved) c.replace-debt.ensures.value ∙ c.self.view_is)
-    c.requires.outcome c.requires.waits c.requires.fed (ap (λ (h : Held). h.bytes) c.replace-requests.ensures.value) c.in_ok-reading.ensures.rest c.in_ok-reading.ensures.ok (λ h. c.remaining_feed.ensures.open_ (c.is_ended.ensures ∙ h))
+    c.requires.outcome c.requires.waits c.requires.fed (ap (λ (h : Held). h.bytes) c.replace-requests.ensures.value) c.in-Ok.ensures.rest c.in-Ok.ensures.ok (λ h. c.remaining_feed.ensures.open_ (c.is_ended.ensures ∙ h))
