@@ -309,6 +309,7 @@ impl PageRest {
 
     /// Appends a part of lines: the next line or a part of it, and the lines of triples behind it that are
     /// no longer together than a part may be.
+    #[tactic(auto, using(crate::proofs::RestLaws::given_more, list_laws::proofs::Begins::begins_on))]
     fn give_lines(&mut self, out: &mut Vec<u8>) -> Result<(), OutOfMemory>
         requires part { ArePart self.old.table self.old.triples }
         requires some { page_left self.old ≡ true }

@@ -1,5 +1,4 @@
 use Rattle.std.proofs.Common.{arith}
-use Rattle.list_laws.proofs.Begins.{begins_on}
 use Rattle.page_responses.specs.PageRests.{page_text}
 use Rattle.page_responses.proofs.RestLaws.{given_more}
 use Rattle.page_responses.proofs.rest.PageRest.give_lines.Goals as goal
@@ -8,9 +7,3 @@ pub returns-clause-ok : goal.returns-clause-ok
 returns-clause-ok c =
     given_more _ (page_text c.args.self.now) (page_text c.give_line.new.self) (page_text c.give_more.new.self) c.args.out.now.items c.give_line.new.out.items c.give_more.new.out.items
     (omega arith) c.in_ok-give_line.ensures.ok c.in_ok-give_more.ensures.ok
-
-pub returns-in_err-give_more-clause-front : goal.returns-in_err-give_more-clause-front
-returns-in_err-give_more-clause-front c = begins_on c.args.out.now.items c.give_line.new.out.items c.give_more.new.out.items c.in_ok-give_line.ensures.front c.in_err-give_more.ensures.front
-
-pub returns-clause-front : goal.returns-clause-front
-returns-clause-front c = begins_on c.args.out.now.items c.give_line.new.out.items c.give_more.new.out.items c.in_ok-give_line.ensures.front c.in_ok-give_more.ensures.front
