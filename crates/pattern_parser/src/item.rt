@@ -156,19 +156,20 @@ fn term_of(
 ) -> Result<Option<Term>, OutOfMemory>
     ensures { IfOk result (λ o. o ≡ term_of (iris prefixes.now) value.now rest.now) }
 {
-    Ok(Some(match value {
+    let term = match value {
         Value::Iri(_) | Value::Prefix(_) | Value::Prefixed(_, _) => {
-            iri_part(alloc, prefixes, value)?
+            iri_part(alloc, prefixes, value)
         }
-        Value::Str(form) => string_term(alloc, prefixes, form.as_str(), rest)?,
-        Value::Integer(form) => typed_term(alloc, form.as_str(), datatype_of(value))?,
-        Value::Decimal(form) => typed_term(alloc, form.as_str(), datatype_of(value))?,
-        Value::Double(form) => typed_term(alloc, form.as_str(), datatype_of(value))?,
-        Value::True => typed_term(alloc, "true", datatype_of(value))?,
-        Value::False => typed_term(alloc, "false", datatype_of(value))?,
-        Value::TypeWord => type_term(alloc)?,
+        Value::Str(form) => string_term(alloc, prefixes, form.as_str(), rest),
+        Value::Integer(form) => typed_term(alloc, form.as_str(), datatype_of(value)),
+        Value::Decimal(form) => typed_term(alloc, form.as_str(), datatype_of(value)),
+        Value::Double(form) => typed_term(alloc, form.as_str(), datatype_of(value)),
+        Value::True => typed_term(alloc, "true", datatype_of(value)),
+        Value::False => typed_term(alloc, "false", datatype_of(value)),
+        Value::TypeWord => type_term(alloc),
         _ => return Ok(None),
-    }))
+    };
+    Ok(Some(term?))
 }
 
 /// The text of a token that is a name.
@@ -233,12 +234,13 @@ pub fn more(value: &Value, rest: &[Word]) -> usize
 fn push_mark(items: &mut Vec<Item>, value: &Value) -> Result<(), OutOfMemory>
     ensures { OnOk result (items.new.items ≡ items.old.items ++ mark_of value.now) }
 {
-    match value {
-        Value::Dot => items.push(Item::Dot)?,
-        Value::Semicolon => items.push(Item::Semicolon)?,
-        Value::Comma => items.push(Item::Comma)?,
-        _ => {}
-    }
+    let mark = match value {
+        Value::Dot => Item::Dot,
+        Value::Semicolon => Item::Semicolon,
+        Value::Comma => Item::Comma,
+        _ => return Ok(()),
+    };
+    items.push(mark)?;
     Ok(())
 }
 

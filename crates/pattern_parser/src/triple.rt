@@ -25,11 +25,26 @@ fn pattern_of(
 ) -> Result<Pattern, OutOfMemory>
     ensures { IfOk result (λ p. p ≡ record { subject = subject.now; predicate = verb.now; object = object }) }
 {
-    Ok(Pattern {
-        subject: subject.copy(alloc)?,
-        predicate: verb.copy(alloc)?,
-        object,
-    })
+    // A drop that is written out is one call; at an exit each variant of a part has steps of its own.
+    let subject = match subject.copy(alloc) {
+        Ok(subject) => subject,
+        Err(fault) => {
+            drop(object);
+            return Err(fault);
+        }
+    };
+    match verb.copy(alloc) {
+        Ok(predicate) => Ok(Pattern {
+            subject,
+            predicate,
+            object,
+        }),
+        Err(fault) => {
+            drop(subject);
+            drop(object);
+            Err(fault)
+        }
+    }
 }
 
 impl Reading {
@@ -42,11 +57,11 @@ impl Reading {
     {
         match &self.subject {
             None => {
-                self.subject = Some(part);
-                self.verb = None;
+                drop(self.subject.replace(part));
+                drop(self.verb.take());
             }
             Some(subject) => match &self.verb {
-                None => self.verb = Some(part),
+                None => drop(self.verb.replace(part)),
                 Some(verb) => {
                     let pattern = pattern_of(alloc, subject, verb, part)?;
                     self.patterns.push(pattern)?;
@@ -64,12 +79,12 @@ impl Reading {
             ++ map (λ p. p.pattern) (triples_after self.old.subject self.old.verb (item ∷ rest))) }
     {
         match item {
-            Item::Part(part, _) => self.take_part(alloc, part)?,
+            Item::Part(part, _) => return self.take_part(alloc, part),
             Item::Dot => {
-                self.subject = None;
-                self.verb = None;
+                drop(self.subject.take());
+                drop(self.verb.take());
             }
-            Item::Semicolon => self.verb = None,
+            Item::Semicolon => drop(self.verb.take()),
             Item::Comma => {}
         }
         Ok(())
@@ -86,7 +101,17 @@ pub fn patterns(alloc: Global, items: Vec<Item>) -> Result<Vec<Pattern>, OutOfMe
         patterns: Vec::new(alloc),
     };
     for item in items {
-        reading.take(alloc, item)?;
+        if let Err(fault) = reading.take(alloc, item) {
+            drop(reading);
+            return Err(fault);
+        }
     }
-    Ok(reading.patterns)
+    let Reading {
+        subject,
+        verb,
+        patterns,
+    } = reading;
+    drop(subject);
+    drop(verb);
+    Ok(patterns)
 }
