@@ -215,14 +215,23 @@ impl Quad {
     pub fn copy(&self, alloc: Global) -> Result<Quad, OutOfMemory>
         ensures { IfOk result (λ t. t ≡ self.now) }
     {
-        let graph = match &self.graph {
-            None => None,
-            Some(graph) => Some(graph.copy(alloc)?),
-        };
-        Ok(Quad {
-            triple: self.triple.copy(alloc)?,
-            graph,
-        })
+        let triple = self.triple.copy(alloc)?;
+        match &self.graph {
+            None => Ok(Quad {
+                triple,
+                graph: None,
+            }),
+            Some(graph) => match graph.copy(alloc) {
+                Ok(graph) => Ok(Quad {
+                    triple,
+                    graph: Some(graph),
+                }),
+                Err(fault) => {
+                    drop(triple);
+                    Err(fault)
+                }
+            },
+        }
     }
 }
 
@@ -308,8 +317,13 @@ impl Term {
     fn literal(alloc: Global, form: &str, kind: Kind) -> Result<Term, OutOfMemory>
         ensures { IfOk result (λ t. t ≡ Term.Literal form.now kind) }
     {
-        let form = Text::copy(alloc, form)?;
-        Ok(Term::Literal { form, kind })
+        match Text::copy(alloc, form) {
+            Ok(form) => Ok(Term::Literal { form, kind }),
+            Err(fault) => {
+                drop(kind);
+                Err(fault)
+            }
+        }
     }
 
     /// The same term again. Its one error is out of memory.
