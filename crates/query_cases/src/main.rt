@@ -14,9 +14,9 @@ use std::alloc::Global;
 use std::process::ExitCode;
 
 /// The calls that rows name.
-struct Queries;
+struct Calls;
 
-impl Answers for Queries {
+impl Answers for Calls {
     fn answer(&self, alloc: Global, call: &str, case: &mut Case<'_>) -> Result<String, CaseFault> {
         match call {
             "query" => queries::query(alloc, case),
@@ -38,7 +38,7 @@ impl Answers for Queries {
 fn main(rt: HostRuntime) -> ExitCode {
     run(
         &rt,
-        &Queries,
+        &Calls,
         "names.json",
         &[
             "words.jsonl",
