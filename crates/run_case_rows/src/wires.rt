@@ -149,7 +149,21 @@ impl Over for Scripted {
     }
 }
 
-/// The run of a line over a wire of scripts, and over a shelf whose file changes.
+/// The run of these words over a wire of scripts, and over a shelf whose file changes.
+fn over_both<P: Runs>(
+    program: &P,
+    alloc: Global,
+    words: &[String],
+    shelf: &mut ChangingShelf,
+    wire: &mut ScriptWire,
+) -> Result<Box<Outcome>, CaseFault> {
+    let mut outcome = Outcome::new(alloc, Failure::Never, Failure::Never)?;
+    program.run(alloc, words, shelf, wire, &mut outcome)?;
+    outcome.sent = Some(sent_over(alloc, wire)?);
+    Ok(outcome)
+}
+
+/// The run of a line over a wire of scripts, and over a shelf that has the next of these contents each time.
 fn over_changing<P: Runs>(
     program: &P,
     alloc: Global,
@@ -157,12 +171,9 @@ fn over_changing<P: Runs>(
     contents: Vec<Vec<u8>>,
     wire: &mut ScriptWire,
 ) -> Result<Box<Outcome>, CaseFault> {
-    let mut shelf = ChangingShelf::new(contents);
     let words = words_of(alloc, line)?;
-    let mut outcome = Outcome::new(alloc, Failure::Never, Failure::Never)?;
-    program.run(alloc, words.as_slice(), &mut shelf, wire, &mut outcome)?;
-    outcome.sent = Some(sent_over(alloc, wire)?);
-    Ok(outcome)
+    let mut shelf = ChangingShelf::new(contents);
+    over_both(program, alloc, words.as_slice(), &mut shelf, wire)
 }
 
 /// `line`, `contents`, `replies`, `links`, `wire_fails`: how the run ends.
