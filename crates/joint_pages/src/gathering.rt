@@ -9,7 +9,7 @@ ghost use Rattle.joint_pages.specs.Gatherings.{begun, HandsNext, AwaitsAt, IsStr
 ghost use Rattle.joint_pages.specs.Joined.{joined_as};
 ghost use Rattle.joint_pages.specs.Truths.{AreServers, is_one, HoldsTrue, IsJointPageOf};
 
-use crate::joining::join_parts;
+use crate::joining::{join_parts, put_copy};
 use crate::only::only_page;
 use crate::part::Part;
 use fragment_page::Page;
@@ -50,7 +50,7 @@ fn copy_set(alloc: Global, set: &TripleSet) -> Result<TripleSet, OutOfMemory>
     let triples = set.as_set().iter();
     let mut copy = TripleSet::new(alloc);
     for triple in triples {
-        copy.insert(triple.copy(alloc)?)?;
+        put_copy(alloc, triple, &mut copy)?;
     }
     Ok(copy)
 }

@@ -1,5 +1,10 @@
 // The pages of a round, taken one after another.
-ghost use Rattle.std.specs.Prelude.{◌≡◌, ◌+◌, ◌<◌, ◌≤◌, ◌^◌, ◌++◌, IfOk, OnOk, option_to_list};
+ghost use Rattle.std.specs.Prelude.{◌≡◌, ◌+◌, ◌<◌, ◌≤◌, ◌^◌, ◌++◌, IfOk, OnOk, not, option_to_list};
+ghost use Rattle.std.specs.Bool.{OnFalse};
+ghost use Rattle.std.specs.List.{list_any};
+ghost use Rattle.rdf_terms.specs.Fragments.{put};
+ghost use Rattle.rdf_terms.specs.Order.{triple_order};
+ghost use Rattle.rdf_terms.specs.Same.{triple_eq};
 ghost use Rattle.bgp_core.specs.Solutions.{unless_before, distinct_after};
 ghost use Rattle.joint_pages.specs.Parts.{page_of, pages_in};
 ghost use Rattle.joint_pages.specs.Joined.{added, next_round, joined};
@@ -33,6 +38,20 @@ impl Model for Joining {
     ghost view = { λ j. record { taken = j.taken; triples = j.triples.items; count = j.count; nexts = j.nexts.items } };
 }
 
+/// Puts a copy of a triple into a set, and says whether it is new there.
+pub(crate) fn put_copy(
+    alloc: Global,
+    triple: &Triple,
+    set: &mut TripleSet,
+) -> Result<bool, OutOfMemory>
+    ensures is_new { IfOk result (λ is_new.
+        is_new ≡ not (list_any (λ other. triple_eq other triple.now) set.old)) }
+    ensures put { OnOk result (set.new ≡ put triple_order triple.now set.old) }
+    ensures held { IfOk result (λ is_new. OnFalse is_new (set.new ≡ set.old)) }
+{
+    set.insert(triple.copy(alloc)?)
+}
+
 /// Takes one triple: where it is new, it is then among those that came.
 fn take_one(
     alloc: Global,
@@ -43,10 +62,21 @@ fn take_one(
     ensures triples { OnOk result (triples.new.items ≡ triples.old.items ++ unless_before taken.old triple) }
     ensures taken { OnOk result (taken.new ≡ added taken.old (unless_before taken.old triple)) }
 {
-    if taken.insert(triple.copy(alloc)?)? {
-        triples.push(triple)?;
+    match put_copy(alloc, &triple, taken) {
+        Ok(true) => {
+            triples.push(triple)?;
+            Ok(())
+        }
+        Ok(false) => {
+            // One call drops it; a return would drop it part by part.
+            drop(triple);
+            Ok(())
+        }
+        Err(error) => {
+            drop(triple);
+            Err(error)
+        }
     }
-    Ok(())
 }
 
 /// Takes the triples of one page.
@@ -116,17 +146,18 @@ impl Joining {
             triples,
             count,
             next,
+            form,
             ..
         } = page;
+        drop(form);
         self.count += count as u128;
+        add_next(&mut self.nexts, next)?;
         take_new(
             alloc,
             triples.into_vec(),
             &mut self.taken,
             &mut self.triples,
-        )?;
-        add_next(&mut self.nexts, next)?;
-        Ok(())
+        )
     }
 
     /// Takes the page of a part, if it came. Condition: the sum of the counts fits.
