@@ -67,8 +67,6 @@ pub(crate) fn made_of(
     ensures idle { IfOk result (λ m. AllAreIdle m) }
 {
     let JointPage { triples, next, .. } = page;
-    let mut opened = Vec::new(alloc);
-    let mut out = Vec::new(alloc);
     let found = match expand(alloc, chosen, rows, triples.into_vec()) {
         Ok(found) => found,
         Err(error) => {
@@ -77,6 +75,8 @@ pub(crate) fn made_of(
             return Err(error);
         }
     };
+    let mut opened = Vec::new(alloc);
+    let mut out = Vec::new(alloc);
     let Ok(()) = add_rows(alloc, cut, rest, found, &mut opened, &mut out) else {
         drop(next);
         return Err(OutOfMemory);
@@ -119,9 +119,9 @@ fn made_of_held(
         next_walk chosen.now.value rest.now.value rows.now pages page.now.next) }
     ensures idle { IfOk result (λ m. AllAreIdle m) }
 {
+    let found = expand_held(alloc, chosen, rows, page.triples.as_slice())?;
     let mut opened = Vec::new(alloc);
     let mut out = Vec::new(alloc);
-    let found = expand_held(alloc, chosen, rows, page.triples.as_slice())?;
     add_rows(alloc, cut, rest, found, &mut opened, &mut out)?;
     let further = copy_next(alloc, &page.next)?;
     let after = walk_on(alloc, rows, rest, chosen, pages, further)?;

@@ -137,9 +137,9 @@ pub(crate) fn gather<'a>(
     ensures { IfOk result
         (λ g. IsGathered (chosen choice.now quads.entry.now) (borrowed_terms g.terms.items) g.triples.items) }
 {
-    let mut terms = Vec::new(alloc);
     let mut triples = Vec::with_capacity(alloc, quads.len())?;
     let mut recent = Recent::new(alloc, quads.len())?;
+    let mut terms = Vec::new(alloc);
     for quad in quads {
         push_chosen(&mut terms, &mut triples, &mut recent, quad, choice)?;
     }

@@ -152,8 +152,8 @@ pub(crate) fn rank_terms<'a>(alloc: Global, terms: &[&'a Term]) -> Result<Ranked
         (λ r. AreRanked (borrowed_terms terms.entry.now) (borrowed_terms r.terms.items) r.ranks.items) }
 {
     let entries = sorted_entries(alloc, terms)?;
-    let mut ordered = Vec::new(alloc);
     let mut ranks = vec![in alloc; 0; terms.len()]?;
+    let mut ordered = Vec::new(alloc);
     for entry in &entries {
         let rank = rank_of(&mut ordered, entry.term)?;
         ranks[entry.place] = rank;
