@@ -1,6 +1,6 @@
 // Addresses.
 use crate::slots::rows_of;
-use case_rows::{Case, CaseFault, debug_text, number_text, truth_text, word_text};
+use case_rows::{Case, CaseFault, debug_text, truth_text, word_text};
 use case_slots::slots_of;
 use std::alloc::Global;
 use template_fill::{AddressFault, WebAddress, page_address};
@@ -35,15 +35,12 @@ pub fn spaced(alloc: Global, texts: &[&str]) -> Result<String, CaseFault> {
 
 /// The normal form of an address, its authority, host, port and target.
 fn parts_text(alloc: Global, address: &WebAddress) -> Result<String, CaseFault> {
-    let port = number_text(alloc, address.port() as u64)?;
-    let parts = [
-        address.text(),
-        address.authority(),
-        address.host(),
-        port.as_str(),
-        address.target(),
-    ];
-    spaced(alloc, &parts)
+    let text = address.text();
+    let authority = address.authority();
+    let host = address.host();
+    let port = address.port();
+    let target = address.target();
+    Ok(format!(in alloc; "{text} {authority} {host} {port} {target}")?)
 }
 
 /// The same of its copy.

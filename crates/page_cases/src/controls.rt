@@ -35,31 +35,21 @@ pub fn config(alloc: Global, case: &mut Case<'_>) -> Result<String, CaseFault> {
     }
 }
 
-/// Appends whether a path is that of a reload.
-fn push_asked(config: &Config, path: &str, out: &mut String) -> Result<(), CaseFault> {
-    let is_reload = config.is_reload(path.as_bytes());
-    Ok(out.push_str(if is_reload { "yes " } else { "no " })?)
-}
-
 /// Appends whether each of the paths is that of a reload.
 fn push_all_asked(config: &Config, asked: &[String], out: &mut String) -> Result<(), CaseFault> {
     for path in asked {
-        push_asked(config, path.as_str(), out)?;
+        let is_reload = config.is_reload(path.as_bytes());
+        out.push_str(if is_reload { "yes " } else { "no " })?;
     }
     Ok(())
 }
 
-/// Appends a configuration as text.
-fn push_config(alloc: Global, config: &Config, out: &mut String) -> Result<(), CaseFault> {
-    let text = config_text(alloc, config)?;
-    Ok(out.push_str(text.as_str())?)
-}
-
 /// Whether each of the paths is that of a reload, and a configuration as text.
 fn asked_text(alloc: Global, config: &Config, asked: &[String]) -> Result<String, CaseFault> {
+    let text = config_text(alloc, config)?;
     let mut out = String::new(alloc);
     push_all_asked(config, asked, &mut out)?;
-    push_config(alloc, config, &mut out)?;
+    out.push_str(text.as_str())?;
     Ok(out)
 }
 

@@ -199,26 +199,13 @@ fn push_line(line: &str, out: &mut String) -> Result<(), CaseFault> {
     Ok(out.push('\n')?)
 }
 
-/// Whether a place is this one or behind it, and one of at most so many.
-fn is_asked(place: u64, from: u64, most: u64) -> bool {
-    place >= from && place - from < most
-}
-
-/// Appends the lines from this one on, at most so many.
-fn push_lines(text: &str, from: u64, most: u64, out: &mut String) -> Result<(), CaseFault> {
-    for (i, line) in text.lines().enumerate() {
-        if is_asked(i as u64, from, most) {
-            push_line(line, out)?;
-        }
-    }
-    Ok(())
-}
-
 /// The lines from this one on, at most so many, as text.
 fn lines_text(alloc: Global, lines: &[u8], from: u64, most: u64) -> Result<String, CaseFault> {
     let text = str::from_utf8(lines).unwrap_or("no text");
     let mut out = String::new(alloc);
-    push_lines(text, from, most, &mut out)?;
+    for line in text.lines().skip(from as usize).take(most as usize) {
+        push_line(line, &mut out)?;
+    }
     Ok(out)
 }
 
@@ -229,20 +216,10 @@ fn some_lines(alloc: Global, case: &mut Case<'_>, lines: &Lines) -> Result<Strin
     lines_text(alloc, lines.text.as_slice(), from, most)
 }
 
-/// What is to be shown of lines that is a number: how many bytes or lines they are, or the length of the first.
-fn number_of(lines: &Lines, show: &str) -> Option<u64> {
-    match show {
-        "bytes" => Some(lines.text.len() as u64),
-        "count" => Some(lines.lengths.len() as u64),
-        "line_length" => lines.lengths.first().copied(),
-        _ => None,
-    }
-}
-
-/// The number that is to be shown of lines.
-fn shown_number(alloc: Global, lines: &Lines, show: &str) -> Result<String, CaseFault> {
-    match number_of(lines, show) {
-        Some(number) => number_text(alloc, number),
+/// The length of the first line.
+fn first_length(alloc: Global, lines: &Lines) -> Result<String, CaseFault> {
+    match lines.lengths.first() {
+        Some(length) => number_text(alloc, *length),
         None => Err(CaseFault::Row),
     }
 }
@@ -257,7 +234,10 @@ fn shown(
     match show {
         "lengths" => lengths_text(alloc, lines.lengths.as_slice()),
         "lines" => some_lines(alloc, case, lines),
-        _ => shown_number(alloc, lines, show),
+        "bytes" => number_text(alloc, lines.text.len() as u64),
+        "count" => number_text(alloc, lines.lengths.len() as u64),
+        "line_length" => first_length(alloc, lines),
+        _ => Err(CaseFault::Row),
     }
 }
 

@@ -3,11 +3,11 @@ ghost use Rattle.template_fill.specs.Forms.{HasNoBlank};
 
 use crate::addresses::{address_of, spaced};
 use crate::metadata::lines_of;
+use crate::slots::push_term;
 use case_rows::{Case, CaseFault, bytes_text, debug_text, number_or_none, word_text};
 use control_reader::{Page, PageFault, read_page};
-use nquads_text::canonical;
 use own_controls::{OwnControls, own_controls};
-use rdf_terms::{Slot, Slots, Term, Triple};
+use rdf_terms::{Slot, Slots, Triple};
 use std::alloc::Global;
 use template_fill::{Form, WebAddress};
 
@@ -19,20 +19,11 @@ fn next_text(page: &Page) -> &str {
     }
 }
 
-/// A length, a count, and the text behind them.
-fn told_numbers(
-    alloc: Global,
-    length: usize,
-    count: u64,
-    behind: &str,
-) -> Result<String, CaseFault> {
-    Ok(format!(in alloc; "{length} {count} {behind}")?)
-}
-
 /// The number of triples, the count and the next page.
 fn numbers(alloc: Global, page: &Page) -> Result<String, CaseFault> {
     let triples = page.triples.as_slice().len();
-    told_numbers(alloc, triples, page.count, next_text(page))
+    let next = next_text(page);
+    Ok(format!(in alloc; "{triples} {} {next}", page.count)?)
 }
 
 /// Slots of which none is fixed.
@@ -46,20 +37,15 @@ fn free() -> Slots
     }
 }
 
-/// The names of a form, and an address.
-fn form_text(alloc: Global, form: &Form, address: &str) -> Result<String, CaseFault> {
-    let subject = form.subject.as_str();
-    let predicate = form.predicate.as_str();
-    let object = form.object.as_str();
-    spaced(alloc, &[subject, predicate, object, address])
-}
-
 /// The names of a form, and the address that it gives for these slots.
 fn filled(alloc: Global, form: &Form, slots: &Slots) -> Result<String, CaseFault>
     requires { HasNoBlank slots.now }
 {
+    let subject = form.subject.as_str();
+    let predicate = form.predicate.as_str();
+    let object = form.object.as_str();
     match form.address(alloc, slots) {
-        Ok(address) => form_text(alloc, form, address.text()),
+        Ok(address) => spaced(alloc, &[subject, predicate, object, address.text()]),
         Err(_) => Err(CaseFault::OutOfMemory),
     }
 }
@@ -67,14 +53,6 @@ fn filled(alloc: Global, form: &Form, slots: &Slots) -> Result<String, CaseFault
 /// The names of the form, and the address that it gives where nothing is fixed.
 fn form(alloc: Global, page: &Page) -> Result<String, CaseFault> {
     filled(alloc, &page.form, &free())
-}
-
-/// Appends a term in canonical text, with a blank behind it.
-fn push_term(term: &Term, out: &mut Vec<u8>) -> Result<(), CaseFault> {
-    if canonical(term, out).is_err() {
-        return Err(CaseFault::OutOfMemory);
-    }
-    Ok(out.push(b' ')?)
 }
 
 /// Appends the terms of a triple.
@@ -160,22 +138,18 @@ pub fn read_back(alloc: Global, case: &mut Case<'_>) -> Result<String, CaseFault
     shown_of(alloc, case, body.as_slice())
 }
 
-/// A template, a next page and a version.
-fn told_addresses(
-    alloc: Global,
-    template: &str,
-    next: &str,
-    version: u64,
-) -> Result<String, CaseFault> {
-    Ok(format!(in alloc; "{template} {next} {version}")?)
-}
-
 /// What is told of a page of our own: the length of the lines before its controls, the count, the template, the next page
 /// and the version.
 fn own_text(alloc: Global, own: &OwnControls) -> Result<String, CaseFault> {
-    let next = own.next.unwrap_or("none");
-    let addresses = told_addresses(alloc, own.template, next, own.version)?;
-    told_numbers(alloc, own.front.len(), own.count, addresses.as_str())
+    let OwnControls {
+        front,
+        count,
+        template,
+        next,
+        version,
+    } = own;
+    let next = next.unwrap_or("none");
+    Ok(format!(in alloc; "{} {count} {template} {next} {version}", front.len())?)
 }
 
 /// `address`: what is told by a body, where it has the controls of a page of our own; else `other`.

@@ -4,6 +4,7 @@ ghost use Rattle.std.specs.List.{AllByRecursion};
 ghost use Rattle.rdf_terms.specs.Valid.{IsNotBlank};
 ghost use Rattle.template_fill.specs.Forms.{HasNoBlank};
 
+use crate::addresses::spaced;
 use case_rows::{Case, CaseFault, debug_text, number_text, text_of_bytes, word_text};
 use case_slots::{no_blank, slots_of};
 use nquads_text::canonical;
@@ -21,18 +22,13 @@ fn canonical_text(alloc: Global, term: &Term) -> Result<String, CaseFault> {
     text_of_bytes(out)
 }
 
-/// Two texts with a blank between them.
-fn pair_text(alloc: Global, text: &str, form: &str) -> Result<String, CaseFault> {
-    Ok(format!(in alloc; "{text} {form}")?)
-}
-
 /// A term in canonical text, and its explicit form.
 fn term_text(alloc: Global, term: &Term) -> Result<String, CaseFault>
     requires { IsNotBlank term.now }
 {
     let text = canonical_text(alloc, term)?;
     match explicit(alloc, term) {
-        Ok(form) => pair_text(alloc, text.as_str(), form.as_str()),
+        Ok(form) => spaced(alloc, &[text.as_str(), form.as_str()]),
         Err(_) => Err(CaseFault::OutOfMemory),
     }
 }
@@ -46,19 +42,14 @@ fn slot_text(alloc: Global, slot: Slot) -> Result<String, CaseFault> {
     }
 }
 
-/// The slot that is read of a text, or the fault.
-fn explicit_text(alloc: Global, text: &str) -> Result<String, CaseFault> {
-    match read_explicit(alloc, text) {
+/// `text`: the slot that is read of it: its term's canonical text and its explicit form, or the fault.
+pub fn explicit_form(alloc: Global, case: &mut Case<'_>) -> Result<String, CaseFault> {
+    let text = case.text(alloc, "text")?;
+    match read_explicit(alloc, text.as_str()) {
         Ok(slot) => slot_text(alloc, slot),
         Err(ValueFault::OutOfMemory) => Err(CaseFault::OutOfMemory),
         Err(fault) => debug_text(alloc, &fault),
     }
-}
-
-/// `text`: the slot that is read of it: its term's canonical text and its explicit form, or the fault.
-pub fn explicit_form(alloc: Global, case: &mut Case<'_>) -> Result<String, CaseFault> {
-    let text = case.text(alloc, "text")?;
-    explicit_text(alloc, text.as_str())
 }
 
 /// `subject`, `predicate`, `object`: appends a row without a blank node.
@@ -90,17 +81,20 @@ pub fn rows_of(alloc: Global, case: &mut Case<'_>) -> Result<Vec<Slots>, CaseFau
     rows_in(alloc, list.as_mut_slice())
 }
 
+/// Appends a term in canonical text, with a blank behind it.
+pub fn push_term(term: &Term, out: &mut Vec<u8>) -> Result<(), CaseFault> {
+    if canonical(term, out).is_err() {
+        return Err(CaseFault::OutOfMemory);
+    }
+    Ok(out.push(b' ')?)
+}
+
 /// Appends the term of a place in canonical text, or the word `any`, with a blank behind it.
 fn push_place(place: &Slot, out: &mut Vec<u8>) -> Result<(), CaseFault> {
     match place {
-        Slot::Any => out.extend_from_slice(b"any")?,
-        Slot::Fixed(term) => {
-            if canonical(term, out).is_err() {
-                return Err(CaseFault::OutOfMemory);
-            }
-        }
+        Slot::Any => Ok(out.extend_from_slice(b"any ")?),
+        Slot::Fixed(term) => push_term(term, out),
     }
-    Ok(out.push(b' ')?)
 }
 
 /// Appends the places of a row.
@@ -126,16 +120,11 @@ fn told_row(alloc: Global, read: &Result<Option<Slots>, OutOfMemory>) -> Result<
     }
 }
 
-/// The row that is read of a text, if it is one.
-fn read_text(alloc: Global, text: &str) -> Result<String, CaseFault> {
-    told_row(alloc, &read_row(alloc, text))
-}
-
 /// `text`: the places of the row that is read of it: the canonical text of each term, or `any`, with a blank behind it;
 /// `none`, where it is no row.
 pub fn row(alloc: Global, case: &mut Case<'_>) -> Result<String, CaseFault> {
     let text = case.text(alloc, "text")?;
-    read_text(alloc, text.as_str())
+    told_row(alloc, &read_row(alloc, text.as_str()))
 }
 
 /// `subject`, `predicate`, `object`: how many bytes the row takes in an address.

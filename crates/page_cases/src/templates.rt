@@ -5,17 +5,12 @@ use case_rows::{Case, CaseFault, truth_text, word_text};
 use case_slots::slots_of;
 use std::alloc::Global;
 use template_fill::{Form, Template, TemplateFault, Value};
-use text_base::Text;
-
-/// A copy of a text.
-fn copied(alloc: Global, text: &str) -> Result<Text, CaseFault> {
-    Ok(Text::from_string(String::from_str(alloc, text)?))
-}
+use text_base::{OutOfMemory, Text, all_three};
 
 /// A value: a name, and its text.
-fn value_of(alloc: Global, name: &str, text: &str) -> Result<Value, CaseFault> {
-    let name = copied(alloc, name)?;
-    let text = copied(alloc, text)?;
+fn value_of(alloc: Global, name: &str, text: &str) -> Result<Value, OutOfMemory> {
+    let name = Text::copy(alloc, name)?;
+    let text = Text::copy(alloc, text)?;
     Ok(Value { name, text })
 }
 
@@ -24,8 +19,10 @@ fn push_value(alloc: Global, pair: &[String], values: &mut Vec<Value>) -> Result
     let [name, text] = pair else {
         return Err(CaseFault::Row);
     };
-    let value = value_of(alloc, name.as_str(), text.as_str())?;
-    Ok(values.push(value)?)
+    match value_of(alloc, name.as_str(), text.as_str()) {
+        Ok(value) => Ok(values.push(value)?),
+        Err(_) => Err(CaseFault::OutOfMemory),
+    }
 }
 
 /// `values`: names, each followed by its text.
@@ -72,47 +69,30 @@ pub fn names(alloc: Global, case: &mut Case<'_>) -> Result<String, CaseFault> {
     truth_text(alloc, template.names(name.as_str()))
 }
 
-/// A form over a template, in which no place has a name.
-fn nameless(alloc: Global, template: Template) -> Form {
-    Form {
-        template,
-        subject: Text::from_string(String::new(alloc)),
-        predicate: Text::from_string(String::new(alloc)),
-        object: Text::from_string(String::new(alloc)),
-    }
-}
-
-/// Names a place.
-fn set_name(alloc: Global, place: &mut Text, name: &str) -> Result<(), CaseFault> {
-    *place = copied(alloc, name)?;
-    Ok(())
-}
-
-/// Names the places `subject`, `predicate` and `object`.
-fn set_names(alloc: Global, form: &mut Form) -> Result<(), CaseFault> {
-    set_name(alloc, &mut form.subject, "subject")?;
-    set_name(alloc, &mut form.predicate, "predicate")?;
-    set_name(alloc, &mut form.object, "object")
-}
-
 /// `template`: a form with the names `subject`, `predicate` and `object`.
 fn form_of(alloc: Global, case: &mut Case<'_>) -> Result<Form, CaseFault> {
     let template = template_of(alloc, case)?;
-    let mut form = nameless(alloc, template);
-    set_names(alloc, &mut form)?;
-    Ok(form)
-}
-
-/// `subject`, `predicate`, `object`: the address that a form gives.
-fn address_of(alloc: Global, case: &mut Case<'_>, form: &Form) -> Result<String, CaseFault> {
-    let slots = slots_of(alloc, case)?;
-    given(alloc, form.address(alloc, &slots))
+    let names = all_three(
+        Text::copy(alloc, "subject"),
+        Text::copy(alloc, "predicate"),
+        Text::copy(alloc, "object"),
+    );
+    match names {
+        Ok((subject, predicate, object)) => Ok(Form {
+            template,
+            subject,
+            predicate,
+            object,
+        }),
+        Err(_) => Err(CaseFault::OutOfMemory),
+    }
 }
 
 /// `template`, `subject`, `predicate`, `object`: the address that a form with these three names gives.
 pub fn form(alloc: Global, case: &mut Case<'_>) -> Result<String, CaseFault> {
     let form = form_of(alloc, case)?;
-    address_of(alloc, case, &form)
+    let slots = slots_of(alloc, case)?;
+    given(alloc, form.address(alloc, &slots))
 }
 
 /// `subject`, `predicate`, `object`, `rows`: the address that a form gives.
