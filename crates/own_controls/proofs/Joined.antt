@@ -1,6 +1,8 @@
 -- Lines behind lines: how their text is read.
 use Rattle.std.proofs.Common.{◌≡◌, ℕ, ◌+◌, ◌-◌, ◌≤◌, inl, inr, Bool, true, false, List, [], ◌∷◌, ◌++◌, length, take, drop, Option, Some, None, if◌then◌else◌, nat_eq, refl, sym, ◌∙◌, ap, subst, arith, append_assoc, length-append}
+use Rattle.std.specs.Borrow.{Bor}
 use Rattle.std.specs.List.{AllByRecursion}
+use Rattle.std.specs.Prelude.{IfSome}
 use Rattle.std.proofs.Math.Seq.{take-append_seam, drop-append_seam}
 use Rattle.nquads_text.proofs.ReadLaws.{reads_append}
 use Rattle.nquads_text.proofs.Lines.{first_by, onto_append}
@@ -79,6 +81,20 @@ terms_short longest (q ∷ qs) h =
 -- a piece, and one behind it
 pub behind_both : (a b d p q : List ℕ) → a ≡ p ++ b → b ≡ q ++ d → a ≡ (p ++ q) ++ d
 behind_both a b d p q e f = e ∙ ap (λ (l : List ℕ). p ++ l) f ∙ sym (append_assoc p q d)
+
+-- two pieces, and one behind them
+pub behind_third : (bytes p q d after : List ℕ) (r : Option (Bor (List ℕ))) → bytes ≡ p ++ (q ++ after) → IfSome r (λ rest. after ≡ d ++ rest.now) → IfSome r (λ rest. bytes ≡ (p ++ (q ++ d)) ++ rest.now)
+behind_third bytes p q d after None e h = tt
+behind_third bytes p q d after (Some rest) e h = behind_both bytes (q ++ after) rest.now p (q ++ d) e (behind_both (q ++ after) after rest.now q d refl h)
+
+-- the pieces of a line, two and two and one, and what it ends with
+pub behind_pieces : (bytes opening one middle other closing ending from_middle from_closing from_ending : List ℕ) (r : Option (Bor (List ℕ)))
+    → bytes ≡ opening ++ (one ++ from_middle) → from_middle ≡ middle ++ (other ++ from_closing) → from_closing ≡ closing ++ from_ending → IfSome r (λ rest. from_ending ≡ ending ++ rest.now)
+    → IfSome r (λ rest. bytes ≡ (opening ++ (one ++ (middle ++ (other ++ (closing ++ ending))))) ++ rest.now)
+behind_pieces bytes opening one middle other closing ending from_middle from_closing from_ending None e f g h = tt
+behind_pieces bytes opening one middle other closing ending from_middle from_closing from_ending (Some rest) e f g h =
+    behind_third bytes opening one (middle ++ (other ++ (closing ++ ending))) from_middle (Some rest) e
+    (behind_third from_middle middle other (closing ++ ending) from_closing (Some rest) f (behind_both from_closing from_ending rest.now closing ending g h))
 
 -- the front of a text before what is left of it
 pub front_is : (body front rest : List ℕ) → body ≡ front ++ rest → (take (length body - length rest) body ≡ front) × (drop (length body - length rest) body ≡ rest)

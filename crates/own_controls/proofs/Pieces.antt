@@ -40,6 +40,11 @@ number_few digits (Some n) lead h = count_bound n (subst (λ (l : List ℕ). is_
 pub template_is : (template base places over end : List ℕ) → template ≡ base ++ places → places ≡ end ++ over → over ≡ [] → template ≡ base ++ end
 template_is template base places over end e f none = e ∙ ap (λ (l : List ℕ). base ++ l) (f ∙ ap (λ (l : List ℕ). end ++ l) none ∙ append-nil end)
 
+-- a piece, and what stands behind one more
+pub two_behind : (bytes a b two : List ℕ) (r : Option (Bor (List ℕ))) → bytes ≡ a ++ two → IfSome r (λ rest. two ≡ b ++ rest.now) → IfSome r (λ rest. bytes ≡ a ++ (b ++ rest.now))
+two_behind bytes a b two None e h = tt
+two_behind bytes a b two (Some rest) e h = e ∙ ap (λ (l : List ℕ). a ++ l) h
+
 pub three_behind : (bytes a b d two three : List ℕ) (r : Option (Bor (List ℕ))) → bytes ≡ a ++ two → two ≡ b ++ three → IfSome r (λ rest. three ≡ d ++ rest.now) → IfSome r (λ rest. bytes ≡ a ++ (b ++ (d ++ rest.now)))
 three_behind bytes a b d two three None e f h = tt
 three_behind bytes a b d two three (Some rest) e f h = e ∙ ap (λ (l : List ℕ). a ++ l) (f ∙ ap (λ (l : List ℕ). b ++ l) h)

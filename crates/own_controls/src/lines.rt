@@ -2,7 +2,7 @@
 ghost use Rattle.std.specs.Prelude.{ℕ, ◌≡◌, ◌++◌, List, IfSome};
 ghost use Rattle.own_controls.specs.Lines.{line_text, lines_text};
 
-use crate::piece::{behind, behind_bytes};
+use crate::piece::{behind, behind_bytes, behind_two};
 
 /// A line by the pieces that it is written of, one after another; behind them stands what all lines end with.
 #[derive(Clone, Copy)]
@@ -65,13 +65,10 @@ pub(crate) fn with_two<'a>(
 fn behind_line<'a>(bytes: &'a [u8], ending: &[u8], line: &LineText) -> Option<&'a [u8]>
     ensures { IfSome result (λ rest. bytes.now ≡ line_text ending.now line.now ++ rest.now) }
 {
-    let from_one = behind(bytes, line.opening)?;
-    let from_middle = behind(from_one, line.one)?;
-    let from_other = behind(from_middle, line.middle)?;
-    let from_closing = behind(from_other, line.other)?;
+    let from_middle = behind_two(bytes, line.opening, line.one)?;
+    let from_closing = behind_two(from_middle, line.middle, line.other)?;
     let from_ending = behind(from_closing, line.closing)?;
-    let rest = behind_bytes(from_ending, ending)?;
-    Some(rest)
+    behind_bytes(from_ending, ending)
 }
 
 /// What stands behind the lines.

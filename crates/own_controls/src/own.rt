@@ -12,7 +12,7 @@ ghost use Rattle.own_controls.specs.Safe.{IsWeb};
 ghost use Rattle.own_controls.specs.Own.{IsOwn};
 
 use crate::digits::number;
-use crate::piece::{behind, behind_end, text_to};
+use crate::piece::{behind, behind_end, text_behind, text_to};
 use crate::section::{
     behind_counts, behind_form, behind_link, behind_mappings, behind_topic, behind_version,
 };
@@ -120,6 +120,12 @@ fn texts_of<'a>(page: &str, first: &'a str, base: &'a str, template: &'a str) ->
     })
 }
 
+/// What stands behind the opening of the template's line, which is the third of these lines.
+fn template_in(lines: &[u8]) -> Option<&[u8]> {
+    let second = behind_end(lines)?;
+    behind(behind_end(second)?, TEMPLATE)
+}
+
 /// The texts that these lines are made of, as far as they have the form that is awaited.
 fn texts_in<'a>(lines: &'a [u8], page: &str) -> Option<Texts<'a>>
     requires { IsWeb page.now }
@@ -128,17 +134,10 @@ fn texts_in<'a>(lines: &'a [u8], page: &str) -> Option<Texts<'a>>
     ensures template { IfSome result (λ t. t.template.now ≡ t.base.now ++ codes "{?subject,predicate,object}") }
 {
     let second = behind_end(lines)?;
-    let third = behind_end(second)?;
-    let fourth = behind_end(third)?;
-    let template = behind(fourth, TEMPLATE)?;
+    let template = template_in(second)?;
     let base = text_to(template, b'{')?;
-    let data_set = behind(behind(behind(second, "<")?, base)?, PART)?;
-    texts_of(
-        page,
-        text_to(data_set, b'>')?,
-        base,
-        text_to(template, b'"')?,
-    )
+    let first = text_behind(second, base, PART, b'>')?;
+    texts_of(page, first, base, text_to(template, b'"')?)
 }
 
 /// What stands behind the lines that tell of the form.
@@ -164,16 +163,10 @@ fn count_in<'a>(bytes: &'a [u8], page: &str, ending: &[u8], first: &str) -> Opti
     ensures few { IfSome result (λ c. c.count ≤ HIGHEST_NUMBER) }
 {
     let total = behind_end(bytes)?;
-    let text = text_to(behind(behind(behind(total, "<")?, page)?, TOTAL)?, b'"')?;
+    let text = text_behind(total, page, TOTAL, b'"')?;
     let count = number(text)?;
     let rest = behind_counts(bytes, page, ending, first, text)?;
     Some(Counted { count, rest })
-}
-
-/// The text of an address to which the page is linked, if the first line does so.
-fn target_in<'a>(bytes: &'a [u8], page: &str, middle: &str) -> Option<&'a str> {
-    let target = behind(behind(behind(bytes, "<")?, page)?, middle)?;
-    text_to(target, b'>')
 }
 
 /// The link to another page, if the first line is one.
@@ -185,7 +178,7 @@ fn link_in<'a>(bytes: &'a [u8], page: &str, ending: &[u8], middle: &str) -> Opti
         (link_target page.now link.target)) ++ link.rest.now) }
     ensures target { IfSome result (λ link. IfSome link.target (λ target. IsWeb target.now)) }
 {
-    match target_in(bytes, page, middle) {
+    match text_behind(bytes, page, middle, b'>') {
         None => Some(Link {
             target: None,
             rest: bytes,
@@ -209,7 +202,7 @@ fn version_in(bytes: &[u8], ending: &[u8], base: &str) -> Option<u64>
         → IfSome result (λ n. bytes.now ≡ canon (version_quads (graph_of page) base.now n)) }
     ensures early { IfSome result (λ n. n ≤ HIGHEST_NUMBER) }
 {
-    let text = text_to(behind(behind(behind(bytes, "<")?, base)?, VERSION)?, b'"')?;
+    let text = text_behind(bytes, base, VERSION, b'"')?;
     let version = number(text)?;
     let rest = behind_version(bytes, ending, base, text)?;
     if rest.is_empty() { Some(version) } else { None }

@@ -21,6 +21,14 @@ pub(crate) fn behind<'a>(bytes: &'a [u8], piece: &str) -> Option<&'a [u8]>
     behind_bytes(bytes, piece.as_bytes())
 }
 
+/// What stands behind two pieces at the front.
+pub(crate) fn behind_two<'a>(bytes: &'a [u8], one: &str, other: &str) -> Option<&'a [u8]>
+    ensures { IfSome result (λ rest. bytes.now ≡ one.now ++ (other.now ++ rest.now)) }
+{
+    let from_other = behind(bytes, one)?;
+    behind(from_other, other)
+}
+
 /// What stands behind the first line, where that ends with LF alone.
 pub(crate) fn behind_end(bytes: &[u8]) -> Option<&[u8]>
     ensures line { IfSome result (λ rest. (line : List ℕ) × (bytes.now ≡ line ++ 10 ∷ rest.now)) }
@@ -39,4 +47,15 @@ pub(crate) fn text_to(bytes: &[u8], mark: u8) -> Option<&str> {
     let n = memchr(mark, bytes)?;
     let (text, _) = bytes.split_at(n);
     str::from_utf8(text).ok()
+}
+
+/// The text before the mark in a line that begins with an address in angle brackets and what follows it.
+pub(crate) fn text_behind<'a>(
+    line: &'a [u8],
+    address: &str,
+    middle: &str,
+    mark: u8,
+) -> Option<&'a str> {
+    let from_middle = behind_two(line, "<", address)?;
+    text_to(behind(from_middle, middle)?, mark)
 }

@@ -2,7 +2,7 @@
 ghost use Rattle.std.specs.Prelude.{◌≡◌, ◌++◌, IfSome};
 ghost use Rattle.own_controls.specs.Lines.{EndsLine, graph_end};
 
-use crate::piece::{behind, behind_end};
+use crate::piece::{behind, behind_end, behind_two};
 
 /// A body in two.
 #[derive(Clone, Copy)]
@@ -13,12 +13,9 @@ pub(crate) struct Halves<'a> {
 
 /// Whether the graph of this page's metadata is the subject of the first line.
 fn begins_metadata(bytes: &[u8], page: &str) -> bool {
-    match behind(bytes, "<") {
+    match behind_two(bytes, "<", page) {
         None => false,
-        Some(rest) => match behind(rest, page) {
-            None => false,
-            Some(rest) => behind(rest, "#metadata> <http://xmlns.com/foaf/").is_some(),
-        },
+        Some(rest) => behind(rest, "#metadata> <http://xmlns.com/foaf/").is_some(),
     }
 }
 
@@ -41,19 +38,17 @@ pub(crate) fn cut<'a>(body: &'a [u8], page: &str) -> Option<Halves<'a>>
 /// What stands behind the statement of the first line.
 fn behind_first<'a>(lines: &'a [u8], page: &str) -> Option<&'a [u8]> {
     let about = "#metadata> <http://xmlns.com/foaf/0.1/primaryTopic> <";
-    let section = behind(behind(lines, "<")?, page)?;
-    let topic = behind(section, about)?;
-    behind(behind(topic, page)?, ">")
+    let section = behind_two(lines, "<", page)?;
+    let closing = behind_two(section, about, page)?;
+    behind(closing, ">")
 }
 
 /// What stands behind the graph of the page's metadata and the end of its line.
 fn behind_graph<'a>(bytes: &'a [u8], page: &str) -> Option<&'a [u8]>
     ensures { IfSome result (λ rest. bytes.now ≡ graph_end page.now ++ rest.now) }
 {
-    let from_page = behind(bytes, " <")?;
-    let from_section = behind(from_page, page)?;
-    let rest = behind(from_section, "#metadata> .\n")?;
-    Some(rest)
+    let from_section = behind_two(bytes, " <", page)?;
+    behind(from_section, "#metadata> .\n")
 }
 
 /// What each line of the page's metadata ends with, as the first one has it.
