@@ -128,7 +128,9 @@ impl<'a, K: Sink> TakesRows<K> for ResultText<'a> {
     ghost sink = { K.state };
 
     fn take(&mut self, behind: &mut K, row: Row) -> Result<(), Fault> {
-        if self.add(&row).is_err() {
+        let added = self.add(&row);
+        drop(row);
+        if added.is_err() {
             return Err(Fault::OutOfMemory);
         }
         if self.is_full() {

@@ -35,12 +35,10 @@ pub(crate) fn next_reply<R: Wait, W: Dial>(
 {
     for _ in rt.forever() {
         match asks.step(wire) {
+            Ok(Next::Came(arrived)) => return Ok(arrived),
+            Ok(Next::Waited) => {}
+            Ok(Next::Idle) => unreachable!(),
             Err(fault) => return Err(fault),
-            Ok(next) => match next {
-                Next::Came(arrived) => return Ok(arrived),
-                Next::Waited => {}
-                Next::Idle => unreachable!(),
-            },
         }
     }
     unreachable!()
@@ -50,13 +48,12 @@ pub(crate) fn next_reply<R: Wait, W: Dial>(
 pub(crate) fn read(alloc: Global, arrived: Arrived) -> Result<Page, ClientFault>
     ensures { ReadsPage arrived result }
 {
-    match read_page(alloc, arrived.reply.body.as_slice(), &arrived.address) {
+    let Arrived { address, reply, .. } = arrived;
+    let body = reply.body;
+    match read_page(alloc, body.as_slice(), &address) {
         Ok(page) => Ok(page),
         Err(PageFault::OutOfMemory) => Err(ClientFault::OutOfMemory),
-        Err(fault) => Err(ClientFault::Page {
-            fault,
-            body: arrived.reply.body,
-        }),
+        Err(fault) => Err(ClientFault::Page { fault, body }),
     }
 }
 
@@ -133,7 +130,15 @@ fn note_page(
     ensures forms { OnOk result (forms.new.items ≡ forms.old.items ++ page.form ∷ []) }
     ensures versions { OnOk result (versions.new.items ≡ versions.old.items ++ page.version ∷ []) }
 {
-    let Page { form, version, .. } = page;
+    let Page {
+        triples,
+        next,
+        form,
+        version,
+        ..
+    } = page;
+    drop(triples);
+    drop(next);
     forms.push(form)?;
     versions.push(version)?;
     Ok(())

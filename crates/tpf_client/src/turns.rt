@@ -42,12 +42,10 @@ fn hand_one<E: Evaluates>(
 {
     match evaluation.next_ask(alloc) {
         Err(fault) => Err(fault),
-        Ok(next) => match next {
-            None => Ok(false),
-            Some(ask) => match asks.put(ask.ticket, ask.address) {
-                Ok(()) => Ok(true),
-                Err(fault) => Err(fault),
-            },
+        Ok(None) => Ok(false),
+        Ok(Some(ask)) => match asks.put(ask.ticket, ask.address) {
+            Ok(()) => Ok(true),
+            Err(fault) => Err(fault),
         },
     }
 }
@@ -140,7 +138,9 @@ fn take_reply<E: Evaluates>(
         Err(fault) => Err(fault),
         Ok(page) => {
             if !tells_version(&page, version) {
-                return Err(ClientFault::Changed(version, page.version));
+                let told = page.version;
+                drop(page);
+                return Err(ClientFault::Changed(version, told));
             }
             match evaluation.answer(alloc, ticket, page) {
                 Err(_) => Err(ClientFault::OutOfMemory),

@@ -22,20 +22,20 @@ loop-preserved g c =
     let v = g.W.Wire.state c.loop.wire in
     let w = g.W.Wire.state c.step.new.wire in
     record {
-      so = so-waits a b c.loop.invariant.allowed c.args.asks.now c.loop.asks c.step.new.self (g.W.Wire.state c.args.wire.now) v w c.loop.invariant.so (step-waited b c.loop.asks c.step.new.self v w c.in-Ok.next c.in-Waited.is c.in-Ok.ensures.steps);
-      allowed = allowed-then a b (g.W.Wire.allows c.step.new.wire) c.loop.invariant.allowed c.in-Ok.ensures.allowed;
+      so = so-waits a b c.loop.invariant.allowed c.args.asks.now c.loop.asks c.step.new.self (g.W.Wire.state c.args.wire.now) v w c.loop.invariant.so (step-waited b c.loop.asks c.step.new.self v w c.in-Ok-Waited.field-0 c.in-Ok-Waited.field-0-is c.in-Ok-Waited.ensures.steps);
+      allowed = allowed-then a b (g.W.Wire.allows c.step.new.wire) c.loop.invariant.allowed c.in-Ok-Waited.ensures.allowed;
     }
 
-pub returns-in-Came-clause-awaits : goal.returns-in-Came-clause-awaits
-returns-in-Came-clause-awaits g c =
+pub returns-in-Ok-Came-clause-awaits : goal.returns-in-Ok-Came-clause-awaits
+returns-in-Ok-Came-clause-awaits g c =
     let a = g.W.Wire.allows c.args.wire.now in
     let b = g.W.Wire.allows c.loop.wire in
     let v = g.W.Wire.state c.loop.wire in
     let w = g.W.Wire.state c.step.new.wire in
-    so-comes a b c.loop.invariant.allowed c.args.asks.now c.loop.asks c.step.new.self (g.W.Wire.state c.args.wire.now) v w c.in-Came.arrived c.loop.invariant.so (step-came b c.loop.asks c.step.new.self v w c.in-Ok.next c.in-Came.arrived c.in-Came.is c.in-Ok.ensures.steps)
+    so-comes a b c.loop.invariant.allowed c.args.asks.now c.loop.asks c.step.new.self (g.W.Wire.state c.args.wire.now) v w c.in-Ok-Came.arrived c.loop.invariant.so (step-came b c.loop.asks c.step.new.self v w c.in-Ok-Came.field-0 c.in-Ok-Came.arrived c.in-Ok-Came.field-0-is c.in-Ok-Came.ensures.steps)
 
-pub returns-in-Came-clause-allowed : goal.returns-in-Came-clause-allowed
-returns-in-Came-clause-allowed g c = allowed-then (g.W.Wire.allows c.args.wire.now) (g.W.Wire.allows c.loop.wire) (g.W.Wire.allows c.step.new.wire) c.loop.invariant.allowed c.in-Ok.ensures.allowed
+pub returns-in-Ok-Came-clause-allowed : goal.returns-in-Ok-Came-clause-allowed
+returns-in-Ok-Came-clause-allowed g c = allowed-then (g.W.Wire.allows c.args.wire.now) (g.W.Wire.allows c.loop.wire) (g.W.Wire.allows c.step.new.wire) c.loop.invariant.allowed c.in-Ok-Came.ensures.allowed
 
 pub returns-in-Err-clause-awaits : goal.returns-in-Err-clause-awaits
 returns-in-Err-clause-awaits g c =
@@ -49,5 +49,5 @@ returns-in-Err-clause-allowed g c = allowed-then (g.W.Wire.allows c.args.wire.no
 
 pub unreachable-requires : goal.unreachable-requires
 unreachable-requires g c =
-    let e = step-idle (g.W.Wire.allows c.loop.wire) c.loop.asks c.step.new.self (g.W.Wire.state c.loop.wire) (g.W.Wire.state c.step.new.wire) c.in-Ok.next c.in-Idle.is c.in-Ok.ensures.steps in
+    let e = step-idle (g.W.Wire.allows c.loop.wire) c.loop.asks c.step.new.self (g.W.Wire.state c.loop.wire) (g.W.Wire.state c.step.new.wire) c.in-Ok-Idle.field-0 c.in-Ok-Idle.field-0-is c.in-Ok-Idle.ensures.steps in
     c.requires.some (none-held _ _ c.loop.invariant.so.others e)
