@@ -1,5 +1,6 @@
 pub mod Starts
 pub mod Reading
+pub mod Answered
 pub mod Honest
 pub mod Looping
 pub mod Locals

@@ -11,6 +11,7 @@ ghost use Rattle.query_command.specs.Plans.{SendsPlan, BoundsRequests, RepliesRo
 ghost use Rattle.query_command.specs.Groups.{GeneratedAsked};
 ghost use Rattle.query_command.specs.Over.{IsUsual, AsksGeneratedOver};
 
+use crate::fault::answered;
 use crate::group_wire::ask_groups;
 use crate::local_query::{OverWire, ask_server};
 use crate::start::{config_of, local_start};
@@ -181,24 +182,20 @@ pub fn query_generated<R: Wait, F: Shelf>(
         Err(fault) => return Err(AnswerFault::Query(fault)),
     };
     let Ok(start) = local_start(alloc) else {
+        drop(query);
         return Err(AnswerFault::Data(DataFault::OutOfMemory));
     };
     let Ok(server) = generated_server(alloc, persons) else {
+        drop(query);
         return Err(AnswerFault::Data(DataFault::OutOfMemory));
     };
     match query {
         Asked::Plain(query) => {
             let _patterns = query.patterns();
-            match ask_generated(rt, alloc, persons, &start, server, &query, inside) {
-                Ok(counts) => Ok(counts),
-                Err(fault) => Err(AnswerFault::Client(fault)),
-            }
+            answered(ask_generated(rt, alloc, persons, &start, server, &query, inside))
         }
         Asked::Groups(query) => {
-            match count_groups(rt, alloc, persons, &start, server, &query, inside) {
-                Ok(counts) => Ok(counts),
-                Err(fault) => Err(AnswerFault::Client(fault)),
-            }
+            answered(count_groups(rt, alloc, persons, &start, server, &query, inside))
         }
     }
 }

@@ -37,6 +37,6 @@ pub(crate) fn ask_groups<R: Wait, K: Sink>(
     let options = &asked.options;
     let ended = answer(rt, alloc, query, start, options, &mut wire, out);
     wire.fails_as_due();
-    *inside = Some(wire);
+    drop(inside.replace(wire));
     ended
 }

@@ -13,6 +13,7 @@ ghost use Rattle.query_command.specs.Groups.{FileAsked};
 ghost use Rattle.query_command.specs.Over.{MayAsk};
 
 use crate::blocks::{grammar_of, in_blocks};
+use crate::fault::answered;
 use crate::group_wire::ask_groups;
 use crate::start::{config_of, local_start};
 use crate::{AnswerFault, laws};
@@ -107,7 +108,7 @@ pub(crate) fn ask_server<R: Wait, K: Sink>(
     let options = &asked.options;
     let answer = query_server(rt, alloc, query, start, options, &mut wire, out);
     wire.fails_as_due();
-    *inside = Some(wire);
+    drop(inside.replace(wire));
     answer
 }
 
@@ -182,14 +183,8 @@ pub fn local<R: Wait, F: Shelf, K: Sink>(
     match query {
         Asked::Plain(query) => {
             let _patterns = query.patterns();
-            match ask_server(rt, alloc, &over, server, &query, out, inside) {
-                Ok(report) => Ok(report),
-                Err(fault) => Err(AnswerFault::Client(fault)),
-            }
+            answered(ask_server(rt, alloc, &over, server, &query, out, inside))
         }
-        Asked::Groups(query) => match ask_groups(rt, alloc, &over, server, &query, out, inside) {
-            Ok(report) => Ok(report),
-            Err(fault) => Err(AnswerFault::Client(fault)),
-        },
+        Asked::Groups(query) => answered(ask_groups(rt, alloc, &over, server, &query, out, inside)),
     }
 }

@@ -4,6 +4,7 @@ ghost use Rattle.tpf_client.specs.Bounds.{SuitsCalls};
 ghost use Rattle.query_command.specs.Groups.{ServerAsked};
 
 use crate::blocks::grammar_of;
+use crate::fault::answered;
 use crate::{AnswerFault, laws};
 use data_files::read_query;
 use group_parser::Asked;
@@ -63,17 +64,11 @@ pub fn query<R: Wait, F: Shelf, W: Dial, K: Sink>(
     match query {
         Asked::Plain(query) => {
             let _patterns = query.patterns();
-            match query_server(rt, alloc, &query, start, options, wire, out) {
-                Ok(report) => Ok(report),
-                Err(fault) => Err(AnswerFault::Client(fault)),
-            }
+            answered(query_server(rt, alloc, &query, start, options, wire, out))
         }
         Asked::Groups(query) => {
             laws::blocks_are_valid(&query);
-            match answer(rt, alloc, &query, start, options, wire, out) {
-                Ok(report) => Ok(report),
-                Err(fault) => Err(AnswerFault::Client(fault)),
-            }
+            answered(answer(rt, alloc, &query, start, options, wire, out))
         }
     }
 }

@@ -1,11 +1,14 @@
 -- What is said of the query is said of the file that holds it.
-use Rattle.std.proofs.Common.{Ok, Err, refl}
+use Rattle.std.proofs.Common.{Result, Ok, Err, refl}
 use Rattle.data_files.specs.declared.fault.DataFault.TheVariants as data_faults
 use Rattle.data_files.specs.declared.query.Grammar.TheVariants as grammars
 use Rattle.data_files.specs.KeptLaws.{reads_as}
+use Rattle.query_command.specs.declared.generated_query.Counts.{Counts}
+use Rattle.query_command.specs.declared.fault.AnswerFault.{AnswerFault}
 use Rattle.query_command.specs.declared.fault.AnswerFault.TheVariants as faults
 use Rattle.query_command.specs.Groups as sums
 use Rattle.query_command.proofs.Counting.{generated_answers, generated_fault, generated_planned, generated_honest, generated_sent, generated_requested, generated_replied, generated_ends}
+use Rattle.query_command.proofs.Answered.{by_call}
 use Rattle.query_command.proofs.Complete.{asks_generated, counts_none}
 use Rattle.query_command.proofs.Locals.{valid_read}
 use Rattle.query_command.proofs.GroupFiles.{plain_file, group_file, generated_ok, generated_err}
@@ -26,52 +29,42 @@ returns-in_default-generated_server g c =
     sums.Plain (counts_none _ _ c.args.persons c.args.query.now _ (faults.Data data_faults.OutOfMemory) c.requires.none (refl, c.requires.none) (λ triples config q. tt) tt tt
     (reads_as _ _ _ _ _ (λ e. cc) (λ e. cc) c.in-Ok.ensures.reads))
 
-pub returns-in-Ok-ask_generated : goal.returns-in-Ok-ask_generated
-returns-in-Ok-ask_generated g c =
-    let server = c.in-Ok-generated_server.server in
-    let starts = c.in-Ok-generated_server.ensures in
-    let q = c.in-Plain.query in
-    let read = plain_file grammars.Groups _ c.args.query.now c.in-Ok.query q c.in-Plain.is c.in-Ok.ensures.ok in
-    let one = c.served_is_one.ensures in
-    sums.Plain (asks_generated _ _ c.args.persons c.args.query.now _ (Ok c.in-Ok-ask_generated.counts)
-    (generated_answers _ c.args.persons _ _ q read c.in-Ok-ask_generated.counts c.in-Ok-ask_generated.ensures.counts c.in-Ok-ask_generated.ensures.answers)
-    tt
-    (generated_sent _ c.args.persons _ _ server starts q read one c.ask_generated.ensures.sent)
-    (generated_requested _ c.args.persons _ _ server starts q read one c.ask_generated.ensures.requested)
-    (generated_replied _ c.args.persons _ _ server starts q read one c.in-Ok-ask_generated.counts c.in-Ok-ask_generated.ensures.replied)
-    (λ files is triples q serves holds. tt)
-    tt
-    (generated_honest c.args.persons _ server starts c.ask_generated.ensures.honest)
-    (reads_as _ _ _ _ _ (λ e. cc) (λ e. absurd e) c.in-Ok.ensures.reads))
-
 pub returns-in-Plain : goal.returns-in-Plain
 returns-in-Plain g c =
     let server = c.in-Ok-generated_server.server in
     let starts = c.in-Ok-generated_server.ensures in
     let q = c.in-Plain.query in
     let read = plain_file grammars.Groups _ c.args.query.now c.in-Ok.query q c.in-Plain.is c.in-Ok.ensures.ok in
+    let valid = valid_read q _ c.patterns-patterns.ensures.value c.patterns-patterns.ensures.valid in
     let one = c.served_is_one.ensures in
-    let fault = c.in-Err-ask_generated.fault in
-    sums.Plain (asks_generated _ _ c.args.persons c.args.query.now _ (Err (faults.Client fault)) tt
-    (generated_fault _ c.args.persons _ _ q read fault c.in-Err-ask_generated.ensures.cause)
-    (generated_sent _ c.args.persons _ _ server starts q read one c.ask_generated.ensures.sent)
-    (generated_requested _ c.args.persons _ _ server starts q read one c.ask_generated.ensures.requested)
+    let e = c.ask_generated.ensures in
+    by_call (λ (result : Result Counts AnswerFault). sums.GeneratedAsked (g.F.Shelf.state c.args.shelf.now) (g.F.Shelf.state c.read_query.new.shelf) c.ask_generated.new.inside c.args.persons c.args.query.now result) c.ask_generated.result _ c.answered.ensures.ok c.answered.ensures.err
+    (λ counts is. sums.Plain (asks_generated _ _ c.args.persons c.args.query.now _ (Ok counts)
+    (generated_answers _ c.args.persons _ _ q read counts (rw is at e.counts) (rw is at e.answers))
     tt
-    (generated_ends _ c.args.persons _ c.ask_generated.new.inside server starts q read one c.commands_keep_limits.ensures.generated c.commands_keep_limits.ensures.queries c.requires.most (valid_read q _ c.patterns-patterns.ensures.value c.patterns-patterns.ensures.valid) fault c.in-Err-ask_generated.ensures.ends)
-    (generated_planned _ c.args.persons _ _ q read c.commands_keep_limits.ensures.generated c.commands_keep_limits.ensures.queries c.requires.most (valid_read q _ c.patterns-patterns.ensures.value c.patterns-patterns.ensures.valid) server starts fault c.ask_generated.ensures.honest c.in-Err-ask_generated.ensures.ends)
-    (generated_honest c.args.persons _ server starts c.ask_generated.ensures.honest)
-    (reads_as _ _ _ _ _ (λ e. cc) (λ e. absurd e) c.in-Ok.ensures.reads))
-
-pub returns-in-Ok-count_groups : goal.returns-in-Ok-count_groups
-returns-in-Ok-count_groups g c =
-    let q = c.in-Groups.query in
-    let read = group_file grammars.Groups _ _ refl c.args.query.now c.in-Ok.query q c.in-Groups.is c.in-Ok.ensures.ok in
-    sums.Groups q (generated_ok _ _ c.args.persons c.args.query.now _ c.in-Ok-generated_server.server c.in-Ok-generated_server.ensures q read c.in-Ok-count_groups.counts c.in-Ok-count_groups.ensures
-    (reads_as _ _ _ _ _ (λ e. cc) (λ e. absurd e) c.in-Ok.ensures.reads))
+    (generated_sent _ c.args.persons _ _ server starts q read one e.sent)
+    (generated_requested _ c.args.persons _ _ server starts q read one e.requested)
+    (generated_replied _ c.args.persons _ _ server starts q read one counts (rw is at e.replied))
+    (λ files is triples q serves holds. tt)
+    tt
+    (generated_honest c.args.persons _ server starts e.honest)
+    (reads_as _ _ _ _ _ (λ e. cc) (λ e. absurd e) c.in-Ok.ensures.reads)))
+    (λ fault is. sums.Plain (asks_generated _ _ c.args.persons c.args.query.now _ (Err (faults.Client fault)) tt
+    (generated_fault _ c.args.persons _ _ q read fault (rw is at e.cause))
+    (generated_sent _ c.args.persons _ _ server starts q read one e.sent)
+    (generated_requested _ c.args.persons _ _ server starts q read one e.requested)
+    tt
+    (generated_ends _ c.args.persons _ c.ask_generated.new.inside server starts q read one c.commands_keep_limits.ensures.generated c.commands_keep_limits.ensures.queries c.requires.most valid fault (rw is at e.ends))
+    (generated_planned _ c.args.persons _ _ q read c.commands_keep_limits.ensures.generated c.commands_keep_limits.ensures.queries c.requires.most valid server starts fault e.honest (rw is at e.ends))
+    (generated_honest c.args.persons _ server starts e.honest)
+    (reads_as _ _ _ _ _ (λ e. cc) (λ e. absurd e) c.in-Ok.ensures.reads)))
 
 pub returns : goal.returns
 returns g c =
     let q = c.in-Groups.query in
     let read = group_file grammars.Groups _ _ refl c.args.query.now c.in-Ok.query q c.in-Groups.is c.in-Ok.ensures.ok in
-    sums.Groups q (generated_err _ _ c.args.persons c.args.query.now _ c.in-Ok-generated_server.server c.in-Ok-generated_server.ensures q read c.commands_keep_limits.ensures.generated c.commands_keep_limits.ensures.groups c.requires.most c.in-Err-count_groups.fault c.in-Err-count_groups.ensures
-    (reads_as _ _ _ _ _ (λ e. cc) (λ e. absurd e) c.in-Ok.ensures.reads))
+    by_call (λ (result : Result Counts AnswerFault). sums.GeneratedAsked (g.F.Shelf.state c.args.shelf.now) (g.F.Shelf.state c.read_query.new.shelf) c.count_groups.new.inside c.args.persons c.args.query.now result) c.count_groups.result _ c.answered-in-Groups.ensures.ok c.answered-in-Groups.ensures.err
+    (λ counts is. sums.Groups q (generated_ok _ _ c.args.persons c.args.query.now _ c.in-Ok-generated_server.server c.in-Ok-generated_server.ensures q read counts (rw is at c.count_groups.ensures)
+    (reads_as _ _ _ _ _ (λ e. cc) (λ e. absurd e) c.in-Ok.ensures.reads)))
+    (λ fault is. sums.Groups q (generated_err _ _ c.args.persons c.args.query.now _ c.in-Ok-generated_server.server c.in-Ok-generated_server.ensures q read c.commands_keep_limits.ensures.generated c.commands_keep_limits.ensures.groups c.requires.most fault (rw is at c.count_groups.ensures)
+    (reads_as _ _ _ _ _ (λ e. cc) (λ e. absurd e) c.in-Ok.ensures.reads)))

@@ -1,5 +1,5 @@
 -- What is said of the server is said of the file that it serves.
-use Rattle.std.proofs.Common.{Ok, Err, refl, subst}
+use Rattle.std.proofs.Common.{Result, Ok, Err, refl, subst}
 use Rattle.template_fill.specs.Metadata.{Config}
 use Rattle.tpf_base.specs.Addresses.{authority_of}
 use Rattle.data_files.specs.declared.fault.DataFault.TheVariants as data_faults
@@ -8,10 +8,13 @@ use Rattle.data_files.specs.Causes.{DataCause, QueryCause}
 use Rattle.data_files.specs.Queries.{IsOfGroupFile}
 use Rattle.data_files.specs.KeptLaws.{reads_keep, sink_none}
 use Rattle.file_server.specs.Servers.{Starts, serving}
+use Rattle.tpf_client.specs.declared.options.Report.{Report}
+use Rattle.query_command.specs.declared.fault.AnswerFault.{AnswerFault}
 use Rattle.query_command.specs.declared.fault.AnswerFault.TheVariants as faults
 use Rattle.query_command.specs.Blocks.{grammar_of}
 use Rattle.query_command.specs.Loops.{local_view}
 use Rattle.query_command.specs.Groups as sums
+use Rattle.query_command.proofs.Answered.{by_call}
 use Rattle.query_command.proofs.Complete.{asks_file, asks_none}
 use Rattle.query_command.proofs.Locals.{local_answers, local_fault, local_honest, local_planned, local_ends, local_sent, local_requested, local_replied, valid_read, is_config, may_ask, query_from}
 use Rattle.query_command.proofs.GroupFiles.{plain_file, group_file, file_ok, file_err}
@@ -53,31 +56,6 @@ returns-in-Err-read_query g c =
     (reads_refused _ _ _ _ _ _ first (λ e. cc) c.in-Err-read_query.fault _ (λ e. cc) (λ e. cc) c.in-Err-read_query.ensures.reads)
     (record { keeps = sink_none _; spared = λ fine. tt }))
 
-pub returns-in-Ok-ask_server : goal.returns-in-Ok-ask_server
-returns-in-Ok-ask_server g c =
-    let view = local_view c.args.asked.now in
-    let first = c.in-Ok-server_of_file.ensures.reads in
-    let second = c.in-Ok-read_query.ensures.reads in
-    let told = first.asks.told in
-    let server = c.in-Ok-server_of_file.server in
-    let starts = subst (λ (config : Config). Starts (g.F.Shelf.state c.args.shelf.now).told view.name view.choice config (serving server)) (is_config _ _ c.args.asked.now.options _ c.in-Ok-config_of.ensures c.in_blocks.ensures) c.in-Ok-server_of_file.ensures.starts in
-    let out = (g.K.Sink.state c.args.out.now) in
-    let out' = (g.K.Sink.state c.ask_server.new.out) in
-    let q = c.in-Plain.query in
-    let read = plain_file _ _ view.query c.in-Ok-read_query.query q c.in-Plain.is c.in-Ok-read_query.ensures.ok in
-    let e = c.ask_server.ensures in
-    sums.Plain (asks_file _ _ out out' _ view (Ok c.in-Ok-ask_server.report)
-    (local_answers _ _ told view server starts _ out out' q read c.in-Ok-ask_server.report c.in-Ok-ask_server.ensures.answers c.in-Ok-ask_server.ensures.answer)
-    tt
-    (local_sent _ _ told view server starts _ out out' q read e.sent)
-    (local_requested _ _ told view server starts _ out out' q read e.requested)
-    (local_replied _ _ told view server starts _ out out' q read c.in-Ok-ask_server.report c.in-Ok-ask_server.ensures.replied)
-    (local_ends _ _ told view server starts c.ask_server.new.inside out out' q read c.commands_keep_limits.ensures.files c.commands_keep_limits.ensures.queries (valid_read q _ c.patterns-patterns.ensures.value c.patterns-patterns.ensures.valid) (Ok c.in-Ok-ask_server.report) c.in-Ok-ask_server.ensures.ends)
-    (local_planned _ _ told view server starts c.ask_server.new.inside out out' q read c.commands_keep_limits.ensures.files c.commands_keep_limits.ensures.queries (valid_read q _ c.patterns-patterns.ensures.value c.patterns-patterns.ensures.valid) (Ok c.in-Ok-ask_server.report) e.honest c.in-Ok-ask_server.ensures.ends)
-    (local_honest _ view server starts _ e.honest)
-    (reads_both _ _ _ _ _ _ first (λ e. cc) (Ok c.in-Ok-ask_server.report) (asked_two _ _ _ _ _ _ first (λ e. cc) second.asks) (opens_two _ _ _ first.asks.opened second.asks.opened) (λ e. absurd e) _ (λ e. cc) second)
-    (record { keeps = e.output; spared = λ fine. tt }))
-
 pub returns-in-Plain : goal.returns-in-Plain
 returns-in-Plain g c =
     let view = local_view c.args.asked.now in
@@ -90,30 +68,31 @@ returns-in-Plain g c =
     let out' = (g.K.Sink.state c.ask_server.new.out) in
     let q = c.in-Plain.query in
     let read = plain_file _ _ view.query c.in-Ok-read_query.query q c.in-Plain.is c.in-Ok-read_query.ensures.ok in
-    let fault = c.in-Err-ask_server.fault in
-    let e = c.in-Err-ask_server.ensures in
-    sums.Plain (asks_file _ _ out out' _ view (Err (faults.Client fault)) tt
-    (local_fault _ _ told view server starts _ out out' q read fault e.cause e.front)
-    (local_sent _ _ told view server starts _ out out' q read c.ask_server.ensures.sent)
-    (local_requested _ _ told view server starts _ out out' q read c.ask_server.ensures.requested)
+    let valid = valid_read q _ c.patterns-patterns.ensures.value c.patterns-patterns.ensures.valid in
+    let e = c.ask_server.ensures in
+    by_call (λ (result : Result Report AnswerFault). sums.FileAsked (g.F.Shelf.state c.args.shelf.now) (g.F.Shelf.state c.read_query.new.shelf) out out' c.ask_server.new.inside view result) c.ask_server.result _ c.answered.ensures.ok c.answered.ensures.err
+    (λ report is. sums.Plain (asks_file _ _ out out' _ view (Ok report)
+    (local_answers _ _ told view server starts _ out out' q read report (rw is at e.answers) (rw is at e.answer))
     tt
-    (local_ends _ _ told view server starts c.ask_server.new.inside out out' q read c.commands_keep_limits.ensures.files c.commands_keep_limits.ensures.queries (valid_read q _ c.patterns-patterns.ensures.value c.patterns-patterns.ensures.valid) (Err fault) e.ends)
-    (local_planned _ _ told view server starts c.ask_server.new.inside out out' q read c.commands_keep_limits.ensures.files c.commands_keep_limits.ensures.queries (valid_read q _ c.patterns-patterns.ensures.value c.patterns-patterns.ensures.valid) (Err fault) c.ask_server.ensures.honest e.ends)
-    (local_honest _ view server starts _ c.ask_server.ensures.honest)
+    (local_sent _ _ told view server starts _ out out' q read e.sent)
+    (local_requested _ _ told view server starts _ out out' q read e.requested)
+    (local_replied _ _ told view server starts _ out out' q read report (rw is at e.replied))
+    (local_ends _ _ told view server starts c.ask_server.new.inside out out' q read c.commands_keep_limits.ensures.files c.commands_keep_limits.ensures.queries valid (Ok report) (rw is at e.ends))
+    (local_planned _ _ told view server starts c.ask_server.new.inside out out' q read c.commands_keep_limits.ensures.files c.commands_keep_limits.ensures.queries valid (Ok report) e.honest (rw is at e.ends))
+    (local_honest _ view server starts _ e.honest)
+    (reads_both _ _ _ _ _ _ first (λ e. cc) (Ok report) (asked_two _ _ _ _ _ _ first (λ e. cc) second.asks) (opens_two _ _ _ first.asks.opened second.asks.opened) (λ e. absurd e) _ (λ e. cc) second)
+    (record { keeps = e.output; spared = λ fine. tt })))
+    (λ fault is. sums.Plain (asks_file _ _ out out' _ view (Err (faults.Client fault))
+    tt
+    (local_fault _ _ told view server starts _ out out' q read fault (rw is at e.cause) (rw is at e.front))
+    (local_sent _ _ told view server starts _ out out' q read e.sent)
+    (local_requested _ _ told view server starts _ out out' q read e.requested)
+    tt
+    (local_ends _ _ told view server starts c.ask_server.new.inside out out' q read c.commands_keep_limits.ensures.files c.commands_keep_limits.ensures.queries valid (Err fault) (rw is at e.ends))
+    (local_planned _ _ told view server starts c.ask_server.new.inside out out' q read c.commands_keep_limits.ensures.files c.commands_keep_limits.ensures.queries valid (Err fault) e.honest (rw is at e.ends))
+    (local_honest _ view server starts _ e.honest)
     (reads_both _ _ _ _ _ _ first (λ e. cc) (Err (faults.Client fault)) (asked_two _ _ _ _ _ _ first (λ e. cc) second.asks) (opens_two _ _ _ first.asks.opened second.asks.opened) (λ e. absurd e) _ (λ e. cc) second)
-    (record { keeps = c.ask_server.ensures.output; spared = λ fine is. c.ask_server.ensures.spared fine (cc) }))
-
-pub returns-in-Ok-ask_groups : goal.returns-in-Ok-ask_groups
-returns-in-Ok-ask_groups g c =
-    let view = local_view c.args.asked.now in
-    let first = c.in-Ok-server_of_file.ensures.reads in
-    let second = c.in-Ok-read_query.ensures.reads in
-    let server = c.in-Ok-server_of_file.server in
-    let starts = subst (λ (config : Config). Starts (g.F.Shelf.state c.args.shelf.now).told view.name view.choice config (serving server)) (is_config _ _ c.args.asked.now.options _ c.in-Ok-config_of.ensures c.in_blocks.ensures) c.in-Ok-server_of_file.ensures.starts in
-    let q = c.in-Groups.query in
-    let read = subst (λ (grammar : Grammar). IsOfGroupFile grammar (g.F.Shelf.state c.args.shelf.now).told view.query q) c.grammar_of.ensures (group_file _ _ _ first.asks.told view.query c.in-Ok-read_query.query q c.in-Groups.is c.in-Ok-read_query.ensures.ok) in
-    sums.Groups q (file_ok _ _ view server starts _ _ _ q read c.commands_keep_limits.ensures.files c.commands_keep_limits.ensures.groups c.in-Ok-ask_groups.report c.in-Ok-ask_groups.ensures
-    (reads_both _ _ _ _ _ _ first (λ e. cc) (Ok c.in-Ok-ask_groups.report) (asked_two _ _ _ _ _ _ first (λ e. cc) second.asks) (opens_two _ _ _ first.asks.opened second.asks.opened) (λ e. absurd e) _ (λ e. cc) second))
+    (record { keeps = e.output; spared = λ fine same. e.spared fine (cc) })))
 
 pub returns : goal.returns
 returns g c =
@@ -124,9 +103,11 @@ returns g c =
     let starts = subst (λ (config : Config). Starts (g.F.Shelf.state c.args.shelf.now).told view.name view.choice config (serving server)) (is_config _ _ c.args.asked.now.options _ c.in-Ok-config_of.ensures c.in_blocks.ensures) c.in-Ok-server_of_file.ensures.starts in
     let q = c.in-Groups.query in
     let read = subst (λ (grammar : Grammar). IsOfGroupFile grammar (g.F.Shelf.state c.args.shelf.now).told view.query q) c.grammar_of.ensures (group_file _ _ _ first.asks.told view.query c.in-Ok-read_query.query q c.in-Groups.is c.in-Ok-read_query.ensures.ok) in
-    let fault = c.in-Err-ask_groups.fault in
-    sums.Groups q (file_err _ _ view server starts _ _ _ q read c.commands_keep_limits.ensures.files c.commands_keep_limits.ensures.groups fault c.in-Err-ask_groups.ensures
-    (reads_both _ _ _ _ _ _ first (λ e. cc) (Err (faults.Client fault)) (asked_two _ _ _ _ _ _ first (λ e. cc) second.asks) (opens_two _ _ _ first.asks.opened second.asks.opened) (λ e. absurd e) _ (λ e. cc) second))
+    by_call (λ (result : Result Report AnswerFault). sums.FileAsked (g.F.Shelf.state c.args.shelf.now) (g.F.Shelf.state c.read_query.new.shelf) (g.K.Sink.state c.args.out.now) (g.K.Sink.state c.ask_groups.new.out) c.ask_groups.new.inside view result) c.ask_groups.result _ c.answered-in-Groups.ensures.ok c.answered-in-Groups.ensures.err
+    (λ report is. sums.Groups q (file_ok _ _ view server starts _ _ _ q read c.commands_keep_limits.ensures.files c.commands_keep_limits.ensures.groups report (rw is at c.ask_groups.ensures)
+    (reads_both _ _ _ _ _ _ first (λ e. cc) (Ok report) (asked_two _ _ _ _ _ _ first (λ e. cc) second.asks) (opens_two _ _ _ first.asks.opened second.asks.opened) (λ e. absurd e) _ (λ e. cc) second)))
+    (λ fault is. sums.Groups q (file_err _ _ view server starts _ _ _ q read c.commands_keep_limits.ensures.files c.commands_keep_limits.ensures.groups fault (rw is at c.ask_groups.ensures)
+    (reads_both _ _ _ _ _ _ first (λ e. cc) (Err (faults.Client fault)) (asked_two _ _ _ _ _ _ first (λ e. cc) second.asks) (opens_two _ _ _ first.asks.opened second.asks.opened) (λ e. absurd e) _ (λ e. cc) second)))
 
 pub ask_server-requires : goal.ask_server-requires
 ask_server-requires g c = may_ask _ _ _ _ _ _ _ c.in-Ok.ensures c.requires.bounds c.in-Ok-server_of_file.ensures.starts (is_config _ _ c.args.asked.now.options _ c.in-Ok-config_of.ensures c.in_blocks.ensures)

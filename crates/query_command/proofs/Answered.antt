@@ -1,0 +1,12 @@
+-- What came of a call over the wire decides what came of the query.
+use Rattle.std.proofs.Common.{◌≡◌, Result, Ok, Err, refl, sym, subst}
+use Rattle.tpf_client.specs.declared.fault.ClientFault.{ClientFault}
+use Rattle.query_command.specs.declared.fault.AnswerFault.{AnswerFault}
+use Rattle.query_command.specs.declared.fault.AnswerFault.TheVariants as faults
+
+-- what holds of either outcome of the call, as of the query, holds of what came of the query
+pub by_call : {A : Type 0} (P : Result A AnswerFault → Type 0) (came : Result A ClientFault) (told : Result A AnswerFault)
+    → ((answer : A) → came ≡ Ok answer → told ≡ Ok answer) → ((fault : ClientFault) → came ≡ Err fault → told ≡ Err (faults.Client fault))
+    → ((answer : A) → came ≡ Ok answer → P (Ok answer)) → ((fault : ClientFault) → came ≡ Err fault → P (Err (faults.Client fault))) → P told
+by_call P (Ok answer) told ok err gave failed = subst P (sym (ok answer refl)) (gave answer refl)
+by_call P (Err fault) told ok err gave failed = subst P (sym (err fault refl)) (failed fault refl)
