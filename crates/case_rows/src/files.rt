@@ -39,6 +39,14 @@ fn rows_in(alloc: Global, text: &str) -> Result<Vec<Row>, AllocError> {
     rows_of(alloc, lines.as_slice())
 }
 
+/// Prints what is told of a row, if anything is, with its line.
+fn print_row<R: Print>(rt: &R, file: &str, row: &Row, told: &Option<String>) -> io::Result<()> {
+    match told {
+        Some(what) => println!(rt; "{file}:{}: {what}", row.line),
+        None => Ok(()),
+    }
+}
+
 /// Prints what is told of rows, each with its line.
 fn print_told<R: Print>(
     rt: &R,
@@ -47,11 +55,27 @@ fn print_told<R: Print>(
     told: &[Option<String>],
 ) -> io::Result<()> {
     for (row, told) in rows.iter().zip(told) {
-        if let Some(what) = told {
-            println!(rt; "{file}:{}: {what}", row.line)?;
-        }
+        print_row(rt, file, row, told)?;
     }
     Ok(())
+}
+
+/// Prints how many rows of a file were answered and how many of them are wrong, and says how many are.
+fn print_tally<R: Print + AllocGlobal>(
+    rt: &R,
+    file: &str,
+    told: &[Option<String>],
+) -> io::Result<usize> {
+    let tally = counted(told);
+    let line = line_of(rt.alloc(), file, &tally)?;
+    println!(rt; "{line}")?;
+    Ok(tally.wrong)
+}
+
+/// The rows of a file.
+fn rows_of_file<R: Files + AllocGlobal>(rt: &R, file: &str) -> io::Result<Vec<Row>> {
+    let text = fs::read_to_string(rt, file)?;
+    Ok(rows_in(rt.alloc(), text.as_str())?)
 }
 
 /// Answers the rows of a file, and prints those that differ and how many there were.
@@ -61,13 +85,24 @@ fn run_file<R: Files + Print + AllocGlobal, A: Answers>(
     names: &Value,
     file: &str,
 ) -> io::Result<usize> {
-    let text = fs::read_to_string(rt, file)?;
-    let rows = rows_in(rt.alloc(), text.as_str())?;
+    let rows = rows_of_file(rt, file)?;
     let told = told_of_rows(rt.alloc(), answers, names, rows.as_slice())?;
     print_told(rt, file, rows.as_slice(), told.as_slice())?;
-    let tally = counted(told.as_slice());
-    println!(rt; "{}", line_of(rt.alloc(), file, &tally)?)?;
-    Ok(tally.wrong)
+    print_tally(rt, file, told.as_slice())
+}
+
+/// Answers the rows of the files over these texts with names, and says whether none was wrong.
+fn run_each<R: Files + Print + AllocGlobal, A: Answers>(
+    rt: &R,
+    answers: &A,
+    names: &Value,
+    files: &[&str],
+) -> io::Result<bool> {
+    let mut all_right = true;
+    for file in files {
+        all_right = run_file(rt, answers, names, file)? == 0 && all_right;
+    }
+    Ok(all_right)
 }
 
 /// Answers the rows of the files, and says whether none was wrong.
@@ -81,11 +116,9 @@ fn run_files<R: Files + Print + AllocGlobal, A: Answers>(
     let Ok(names) = Value::from_str(rt.alloc(), text.as_str()) else {
         return Err(io::Error::other("the names are no JSON"));
     };
-    let mut all_right = true;
-    for file in files {
-        all_right = run_file(rt, answers, &names, file)? == 0 && all_right;
-    }
-    Ok(all_right)
+    let all_right = run_each(rt, answers, &names, files);
+    drop(names);
+    all_right
 }
 
 /// Answers the rows of the files, where `names` has the texts with names. Prints each row that differs, with its

@@ -26,6 +26,7 @@ mod rows;
 mod tally;
 mod text;
 mod told;
+mod values;
 
 pub use answer_text::{
     bytes_text, debug_text, number_or_none, number_text, numbers_text, push_number, text_of_bytes,

@@ -7,9 +7,14 @@ use std::str;
 /// How deep lists and repeats stand in one another at most.
 pub const DEPTH: usize = 8;
 
+/// The member of a value that is a text.
+fn text_of<'a>(value: &'a Value, member: &str) -> Option<&'a str> {
+    value.get(member).and_then(Value::as_str)
+}
+
 /// Appends the text with a name.
 fn push_named(names: &Value, name: &str, out: &mut Vec<u8>) -> Result<(), CaseFault> {
-    match names.get(name).and_then(Value::as_str) {
+    match text_of(names, name) {
         Some(text) => Ok(out.extend_from_slice(text.as_bytes())?),
         None => Err(CaseFault::Row),
     }
@@ -89,7 +94,7 @@ fn push_numbers(
 }
 
 /// The member of a part that is a number.
-fn number_of(part: &Value, member: &str) -> Option<u64> {
+pub fn number_of(part: &Value, member: &str) -> Option<u64> {
     part.get(member).and_then(Value::as_u64)
 }
 
@@ -103,6 +108,51 @@ fn push_made(alloc: Global, part: &Value, once: &[u8], out: &mut Vec<u8>) -> Res
     push_numbers(alloc, once, from, count, out)
 }
 
+/// A text as it is written where it is made of no other.
+#[derive(Clone, Copy)]
+enum Plain<'a> {
+    /// Its own letters.
+    Text(&'a str),
+    /// The name of it.
+    Name(&'a str),
+    /// Letters, each of which is a name.
+    Letters(&'a str),
+    /// The digits of its bytes.
+    Digits(&'a str),
+}
+
+/// The text that a value is, if it is made of no other.
+fn plain_of(value: &Value) -> Option<Plain<'_>> {
+    if let Some(text) = value.as_str() {
+        return Some(Plain::Text(text));
+    }
+    if let Some(name) = text_of(value, "name") {
+        return Some(Plain::Name(name));
+    }
+    if let Some(letters) = text_of(value, "letters") {
+        return Some(Plain::Letters(letters));
+    }
+    match text_of(value, "hex") {
+        Some(digits) => Some(Plain::Digits(digits)),
+        None => None,
+    }
+}
+
+/// Appends a text that is made of no other.
+fn push_plain(
+    alloc: Global,
+    names: &Value,
+    plain: Plain<'_>,
+    out: &mut Vec<u8>,
+) -> Result<(), CaseFault> {
+    match plain {
+        Plain::Text(text) => Ok(out.extend_from_slice(text.as_bytes())?),
+        Plain::Name(name) => push_named(names, name, out),
+        Plain::Letters(letters) => push_letters(alloc, names, letters, out),
+        Plain::Digits(digits) => push_hex(digits.as_bytes(), out),
+    }
+}
+
 /// Appends the bytes that a value of a row stands for.
 pub fn push_text(
     alloc: Global,
@@ -114,8 +164,8 @@ pub fn push_text(
     if depth == 0 {
         return Err(CaseFault::Row);
     }
-    if let Some(text) = value.as_str() {
-        return Ok(out.extend_from_slice(text.as_bytes())?);
+    if let Some(plain) = plain_of(value) {
+        return push_plain(alloc, names, plain, out);
     }
     if let Some(parts) = value.as_array() {
         for part in parts {
@@ -123,17 +173,12 @@ pub fn push_text(
         }
         return Ok(());
     }
-    if let Some(name) = value.get("name").and_then(Value::as_str) {
-        return push_named(names, name, out);
-    }
-    if let Some(letters) = value.get("letters").and_then(Value::as_str) {
-        return push_letters(alloc, names, letters, out);
-    }
-    if let Some(digits) = value.get("hex").and_then(Value::as_str) {
-        return push_hex(digits.as_bytes(), out);
-    }
-    let of = value.get("of").ok_or(CaseFault::Row)?;
+    let Some(of) = value.get("of") else {
+        return Err(CaseFault::Row);
+    };
     let mut once = Vec::new(alloc);
-    push_text(alloc, names, of, depth - 1, &mut once)?;
-    push_made(alloc, value, once.as_slice(), out)
+    match push_text(alloc, names, of, depth - 1, &mut once) {
+        Ok(()) => push_made(alloc, value, once.as_slice(), out),
+        Err(fault) => Err(fault),
+    }
 }

@@ -40,6 +40,28 @@ fn judged(alloc: Global, wanted: &Wanted, got: &str) -> Result<Option<String>, A
     Ok(Some(format!(in alloc; "wanted {:?}, got {got:?}", wanted.first)?))
 }
 
+/// `wanted`, `or`: the answers that a row wants.
+fn wanted_of(alloc: Global, case: &mut Case<'_>) -> Result<Wanted, CaseFault> {
+    let first = case.text(alloc, "wanted")?;
+    match case.text_if(alloc, "or") {
+        Ok(other) => Ok(Wanted { first, other }),
+        Err(fault) => Err(fault),
+    }
+}
+
+/// Answers a row that calls this, and tells what is wrong with the answer, if it is not as wanted.
+fn answered_as<A: Answers>(
+    alloc: Global,
+    answers: &A,
+    call: &str,
+    wanted: &Wanted,
+    case: &mut Case<'_>,
+) -> Result<Option<String>, CaseFault> {
+    let got = answers.answer(alloc, call, case)?;
+    case.end()?;
+    Ok(judged(alloc, wanted, got.as_str())?)
+}
+
 /// Answers a row, and tells what is wrong with the answer, if anything is.
 fn answered<A: Answers>(
     alloc: Global,
@@ -47,13 +69,8 @@ fn answered<A: Answers>(
     case: &mut Case<'_>,
 ) -> Result<Option<String>, CaseFault> {
     let call = case.text(alloc, "call")?;
-    let wanted = Wanted {
-        first: case.text(alloc, "wanted")?,
-        other: case.text_if(alloc, "or")?,
-    };
-    let got = answers.answer(alloc, call.as_str(), case)?;
-    case.end()?;
-    Ok(judged(alloc, &wanted, got.as_str())?)
+    let wanted = wanted_of(alloc, case)?;
+    answered_as(alloc, answers, call.as_str(), &wanted, case)
 }
 
 /// What is wrong with a row, if anything is: it is no JSON, lacks a member or has one that its call does not ask for,
@@ -68,7 +85,9 @@ pub fn told_of<A: Answers>(
         return Ok(Some(String::from_str(alloc, "no JSON")?));
     };
     let mut case = Case::new(members, names);
-    match answered(alloc, answers, &mut case) {
+    let told = answered(alloc, answers, &mut case);
+    drop(case);
+    match told {
         Ok(told) => Ok(told),
         Err(fault) => Ok(Some(format!(in alloc; "{fault:?}")?)),
     }
