@@ -141,19 +141,15 @@ fn predicate_of(alloc: Global, case: &mut Case<'_>) -> Result<Term, CaseFault> {
     }
 }
 
-/// Slots of which the predicate alone is fixed.
-fn with_predicate(predicate: Term) -> Slots {
-    Slots {
-        subject: Slot::Any,
-        predicate: Slot::Fixed(predicate),
-        object: Slot::Any,
-    }
-}
-
 /// `predicate`: slots of which the predicate alone is fixed.
 fn slots_of(alloc: Global, case: &mut Case<'_>) -> Result<Box<Slots>, CaseFault> {
     let predicate = predicate_of(alloc, case)?;
-    Ok(Box::new(alloc, with_predicate(predicate))?)
+    let slots = Slots {
+        subject: Slot::Any,
+        predicate: Slot::Fixed(predicate),
+        object: Slot::Any,
+    };
+    Ok(Box::new(alloc, slots)?)
 }
 
 /// A copy of slots.
@@ -164,31 +160,22 @@ fn copy_of(alloc: Global, slots: &Slots) -> Result<Box<Slots>, CaseFault> {
     }
 }
 
-/// Whether a copy of slots matches a triple.
-fn copy_matches(alloc: Global, slots: &Slots, triple: &Triple) -> Result<bool, CaseFault> {
-    let copy = copy_of(alloc, slots)?;
-    Ok(copy.matches(triple))
-}
-
-/// `predicate`: whether slots of which the predicate alone is fixed match a triple.
+/// `predicate`: whether a copy of slots of which the predicate alone is fixed matches a triple.
 fn predicate_matches(
     alloc: Global,
     case: &mut Case<'_>,
     triple: &Triple,
 ) -> Result<bool, CaseFault> {
     let slots = slots_of(alloc, case)?;
-    copy_matches(alloc, &slots, triple)
-}
-
-/// `terms`, `predicate`: the same of the triple of the terms.
-fn is_match(alloc: Global, case: &mut Case<'_>) -> Result<bool, CaseFault> {
-    let triple = triple_in(alloc, case)?;
-    predicate_matches(alloc, case, &triple)
+    let copy = copy_of(alloc, &slots)?;
+    Ok(copy.matches(triple))
 }
 
 /// `terms`, `predicate`: whether slots of which the predicate alone is fixed match the triple of the terms.
 pub fn matches(alloc: Global, case: &mut Case<'_>) -> Result<String, CaseFault> {
-    truth_text(alloc, is_match(alloc, case)?)
+    let triple = triple_in(alloc, case)?;
+    let is_match = predicate_matches(alloc, case, &triple)?;
+    truth_text(alloc, is_match)
 }
 
 /// The id of a term, which is found and read under it again.
@@ -228,16 +215,12 @@ fn ids_text(alloc: Global, book: &mut TermBook, terms: &[Term]) -> Result<String
     Ok(out)
 }
 
-/// Ids, and how many terms a book has.
-fn book_text(alloc: Global, ids: &str, count: usize) -> Result<String, CaseFault> {
-    Ok(format!(in alloc; "{ids}of {count}")?)
-}
-
 /// The ids that a new book gives terms, and how many it has then.
 fn booked(alloc: Global, terms: &[Term]) -> Result<String, CaseFault> {
     let mut book = TermBook::new(alloc);
     let ids = ids_text(alloc, &mut book, terms)?;
-    book_text(alloc, ids.as_str(), book.len())
+    let count = book.len();
+    Ok(format!(in alloc; "{ids}of {count}")?)
 }
 
 /// `terms`: the ids that a book gives them one after another, and how many it has then.

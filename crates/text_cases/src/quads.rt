@@ -5,15 +5,14 @@ use quad_feed::QuadFeed;
 use rdf_terms::{LONGEST_TERM, Quad};
 use std::alloc::Global;
 
-/// Whether a copy is the same as the value.
-fn is_same<T: PartialEq + Drop>(copy: T, value: &T) -> bool {
-    copy == *value
-}
-
 /// Whether the copy of a quad is the same quad.
 fn is_copied(alloc: Global, quad: &Quad) -> Result<bool, CaseFault> {
     match quad.copy(alloc) {
-        Ok(copy) => Ok(is_same(copy, quad)),
+        Ok(copy) => {
+            let is_same = copy == *quad;
+            drop(copy);
+            Ok(is_same)
+        }
         Err(_) => Err(CaseFault::OutOfMemory),
     }
 }
@@ -163,9 +162,8 @@ fn push_answer(
     out: &mut String,
 ) -> Result<(), CaseFault> {
     let answer = feed.feed(piece);
-    let answer = debug_text(alloc, &answer)?;
-    out.push_str(answer.as_str())?;
-    Ok(out.push_str(", ")?)
+    let answer = format!(in alloc; "{answer:?}, ")?;
+    Ok(out.push_str(answer.as_str())?)
 }
 
 /// The answers to pieces that are fed.

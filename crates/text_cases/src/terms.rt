@@ -61,7 +61,11 @@ fn suffix(term: &Term) -> &str {
 /// Whether the copy of a term is the same term.
 fn is_copied(alloc: Global, term: &Term) -> Result<bool, CaseFault> {
     match term.copy(alloc) {
-        Ok(copy) => Ok(copy.same(term)),
+        Ok(copy) => {
+            let is_same = copy.same(term);
+            drop(copy);
+            Ok(is_same)
+        }
         Err(_) => Err(CaseFault::OutOfMemory),
     }
 }
@@ -75,18 +79,14 @@ fn canonical_text(alloc: Global, term: &Term) -> Result<String, CaseFault> {
     text_of_bytes(out)
 }
 
-/// Two texts with a blank between them.
-fn pair_text(alloc: Global, text: &str, suffix: &str) -> Result<String, CaseFault> {
-    Ok(format!(in alloc; "{text} {suffix}")?)
-}
-
 /// A term in canonical text, and its tag or datatype. Its copy is the same term.
 fn term_text(alloc: Global, term: &Term) -> Result<String, CaseFault> {
     if !is_copied(alloc, term)? {
         return Err(CaseFault::Differs);
     }
     let text = canonical_text(alloc, term)?;
-    pair_text(alloc, text.as_str(), suffix(term))
+    let suffix = suffix(term);
+    Ok(format!(in alloc; "{text} {suffix}")?)
 }
 
 /// `class`, `text`, `kind`: the canonical text of the term and its tag or datatype, or the fault.
