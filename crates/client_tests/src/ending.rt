@@ -35,17 +35,11 @@ fn hands_over<W: Dial>(pool: &mut Pool, wire: &mut W, bytes: &[u8]) -> bool
     false
 }
 
-/// Whether the pool ends with a fault that hands over the bytes, and tells it again without them.
-fn ends_once<W: Dial>(pool: &mut Pool, wire: &mut W, bytes: &[u8]) -> bool
-    requires suits { SuitsWire pool.old (W.state wire.old) }
-{
-    hands_over(pool, wire, bytes) && hands_over(pool, wire, b"")
-}
-
-/// The same of a pool that holds the asks.
-fn ends_on(alloc: Global, case: &Case, wire: &mut ScriptWire, bytes: &str) -> Result<bool, Fail> {
+/// Whether a pool that holds the asks ends with a fault that hands over the bytes, and tells it
+/// again without them.
+fn ends_once(alloc: Global, case: &Case, wire: &mut ScriptWire, bytes: &str) -> Result<bool, Fail> {
     let mut pool = pool_of(alloc, case)?;
-    Ok(ends_once(&mut pool, wire, bytes.as_bytes()))
+    Ok(hands_over(&mut pool, wire, bytes.as_bytes()) && hands_over(&mut pool, wire, b""))
 }
 
 /// Fails where a pool that holds one ask ends otherwise.
@@ -59,7 +53,7 @@ fn check_end(alloc: Global, wire: &str, bytes: &str) -> Result<(), Fail> {
         wire,
     };
     let mut links = wire_of(alloc, &case)?;
-    if !ends_on(alloc, &case, &mut links, bytes)? {
+    if !ends_once(alloc, &case, &mut links, bytes)? {
         return Err(Fail::new(format_args!("{wire}")));
     }
     Ok(())

@@ -32,24 +32,20 @@ const DE: &str =
 const ABC_X: &str =
     "HTTP/1.1 200 OK\r\nContent-Type: application/n-quads\r\nContent-Length: 3\r\n\r\nabcx";
 
-/// A link on which these pieces come.
-fn script(alloc: Global, pieces: &[&[u8]], ends: bool, most: usize) -> Result<Script, Fail> {
+/// One link on which these pieces come.
+fn scripts(alloc: Global, pieces: &[&[u8]], ends: bool, most: usize) -> Result<Vec<Script>, Fail> {
     let mut copies = Vec::new(alloc);
     for piece in pieces {
         add_piece(alloc, piece, &mut copies)?;
     }
-    Ok(Script {
+    let script = Script {
         after: 0,
         pieces: copies,
         ends,
         most,
-    })
-}
-
-/// One link on which these pieces come.
-fn scripts(alloc: Global, pieces: &[&[u8]], ends: bool, most: usize) -> Result<Vec<Script>, Fail> {
+    };
     let mut scripts = Vec::new(alloc);
-    scripts.push(script(alloc, pieces, ends, most)?)?;
+    scripts.push(script)?;
     Ok(scripts)
 }
 

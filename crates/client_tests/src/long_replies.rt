@@ -30,13 +30,6 @@ fn add_chunks(reply: &mut String, chunks: usize) -> Result<(), Fail> {
     Ok(())
 }
 
-/// A reply of so many chunks of one byte, each behind a line of 1000 bytes.
-fn padded(alloc: Global, chunks: usize) -> Result<String, Fail> {
-    let mut reply = with_ok(alloc, "Transfer-Encoding: chunked\r\n\r\n")?;
-    add_chunks(&mut reply, chunks)?;
-    Ok(reply)
-}
-
 /// Adds what makes a begun reply as long as one can be before it is too long, where a body may have
 /// 1054 bytes: a head of 65536 bytes, 1054 chunks of one byte, whose lines and that of the last
 /// chunk have the 1057008 bytes which may stand there, and 65536 bytes of trailers.
@@ -46,12 +39,6 @@ fn add_longest(reply: &mut String) -> Result<(), Fail> {
     add_chunks(reply, 1054)?;
     add_filled(reply, "0;", 898, "\r\n")?;
     add_filled(reply, "", 65_536, "")
-}
-
-fn longest(alloc: Global) -> Result<String, Fail> {
-    let mut reply = with_ok(alloc, "Transfer-Encoding: chunked\r\nX: ")?;
-    add_longest(&mut reply)?;
-    Ok(reply)
 }
 
 /// How many bytes are kept of a reply that is too long.
@@ -86,9 +73,11 @@ fn an_exchange_keeps_nothing_at_its_start(rt: HostRuntime) -> Result<(), Fail> {
     Ok(())
 }
 
-/// How an exchange ends on whose link a reply of so many chunks comes, and then the end.
+/// How an exchange ends on whose link a reply comes of so many chunks of one byte, each behind a
+/// line of 1000 bytes, and then the end.
 fn padded_end(alloc: Global, chunks: usize) -> Result<&'static str, Fail> {
-    let reply = padded(alloc, chunks)?;
+    let mut reply = with_ok(alloc, "Transfer-Encoding: chunked\r\n\r\n")?;
+    add_chunks(&mut reply, chunks)?;
     let outcome = asked_first(alloc, 2000, &[reply.as_bytes()], true)?;
     Ok(end_of(&outcome.answer, reply.as_bytes()))
 }
@@ -113,7 +102,8 @@ fn a_reply_padded_too_much_is_too_long_and_else_cut_at_its_end(
 
 /// How many bytes are kept where 8192 follow the longest reply.
 fn kept_of_longest(alloc: Global) -> Result<Option<usize>, Fail> {
-    let reply = longest(alloc)?;
+    let mut reply = with_ok(alloc, "Transfer-Encoding: chunked\r\nX: ")?;
+    add_longest(&mut reply)?;
     let outcome = asked_first(alloc, 1054, &[reply.as_bytes(), &[b'x'; 8192]], true)?;
     Ok(kept_of(&outcome.answer))
 }
@@ -124,16 +114,10 @@ fn no_more_is_kept_than_the_bound_and_as_much_can_be(rt: HostRuntime) -> Result<
     Ok(())
 }
 
-/// A reply with a body of three million bytes.
-fn large(alloc: Global) -> Result<String, Fail> {
+/// How many bytes are told of a reply with a body of three million bytes.
+fn told_of_large(alloc: Global) -> Result<usize, Fail> {
     let mut reply = with_ok(alloc, "Content-Length: 3000000\r\n\r\n")?;
     add_filled(&mut reply, "", 3_000_000, "")?;
-    Ok(reply)
-}
-
-/// How many bytes are told of it.
-fn told_of_large(alloc: Global) -> Result<usize, Fail> {
-    let reply = large(alloc)?;
     let told = first(alloc, 3_000_000, &[reply.as_bytes()], false)?;
     Ok(told.len())
 }

@@ -130,20 +130,6 @@ pub fn add_requests(wire: &ScriptWire, out: &mut String) -> Result<(), Fail> {
     Ok(())
 }
 
-/// Whether a step comes to what stands at the end of a text.
-fn ends_again<W: Dial>(
-    alloc: Global,
-    pool: &mut Pool,
-    wire: &mut W,
-    told: &str,
-) -> Result<bool, Fail>
-    requires suits { SuitsWire pool.old (W.state wire.old) }
-{
-    let mut again = String::new(alloc);
-    add_steps(alloc, pool, wire, 1, &mut again)?;
-    Ok(told.ends_with(again.as_str()))
-}
-
 /// Steps to the end: adds the tickets in the order of their replies, and the end, which is told
 /// again at each later step.
 fn add_steps_to_end<W: Dial>(
@@ -155,7 +141,9 @@ fn add_steps_to_end<W: Dial>(
     requires suits { SuitsWire pool.old (W.state wire.old) }
 {
     add_steps(alloc, pool, wire, 10_000, told)?;
-    if !ends_again(alloc, pool, wire, told.as_str())? {
+    let mut again = String::new(alloc);
+    add_steps(alloc, pool, wire, 1, &mut again)?;
+    if !told.ends_with(again.as_str()) {
         return Err(Fail::new("another end at a later step"));
     }
     Ok(())

@@ -65,42 +65,40 @@ fn answered(alloc: Global, ticket: u64, address: &WebAddress) -> Result<String, 
     Ok(word)
 }
 
-/// A step, as the tests write it.
-fn shown(alloc: Global, stepped: &Stepped) -> Result<String, Fail> {
-    match stepped {
-        Stepped::Came {
-            ticket,
-            address,
-            ..
-        } => answered(alloc, *ticket, address),
-        Stepped::Waited => Ok(String::new(alloc)),
-        Stepped::Idle => Ok(String::from_str(alloc, "idle")?),
-    }
+/// Adds the ticket of a reply.
+fn add_answered(
+    alloc: Global,
+    ticket: u64,
+    address: &WebAddress,
+    told: &mut String,
+) -> Result<(), Fail> {
+    let word = answered(alloc, ticket, address)?;
+    Ok(told.push_str(word.as_str())?)
 }
 
-/// Steps at most so many times: the tickets in the order in which their replies came, and the end.
-fn steps<W: Dial>(alloc: Global, pool: &mut Pool, wire: &mut W, most: u32) -> Result<String, Fail>
-    requires suits { SuitsWire pool.old (W.state wire.old) }
-    ensures suits { SuitsWire pool.new (W.state wire.new) }
-{
-    let mut told = String::new(alloc);
-    let mut done = 0u32;
-    while done < most {
-        done += 1;
-        match pool.step(wire) {
-            Ok(stepped) => {
-                told = format!(in alloc; "{told}{}", shown(alloc, &stepped)?)?;
-                if matches!(stepped, Stepped::Idle) {
-                    return Ok(told);
-                }
-            }
-            Err(fault) => return Ok(format!(in alloc; "{told}{}", fault_name(&fault))?),
-        }
+/// Adds a step, as the tests write it, and says whether another one may follow.
+fn add_step(
+    alloc: Global,
+    step: &Result<Stepped, PoolFault>,
+    told: &mut String,
+) -> Result<bool, Fail> {
+    match step {
+        Ok(
+            Stepped::Came {
+                ticket,
+                address,
+                ..
+            },
+        ) => add_answered(alloc, *ticket, address, told)?,
+        Ok(Stepped::Waited) => {}
+        Ok(Stepped::Idle) => told.push_str("idle")?,
+        Err(fault) => told.push_str(fault_name(fault))?,
     }
-    Ok(told)
+    Ok(matches!(step, Ok(Stepped::Came { .. } | Stepped::Waited)))
 }
 
-/// Adds what so many steps come to at most.
+/// Adds what at most so many steps come to: the tickets in the order in which their replies came,
+/// and the end.
 pub fn add_steps<W: Dial>(
     alloc: Global,
     pool: &mut Pool,
@@ -111,7 +109,15 @@ pub fn add_steps<W: Dial>(
     requires suits { SuitsWire pool.old (W.state wire.old) }
     ensures suits { SuitsWire pool.new (W.state wire.new) }
 {
-    let come = steps(alloc, pool, wire, most)?;
-    told.push_str(come.as_str())?;
+    let mut done = 0u32;
+    while done < most {
+        done += 1;
+        let step = pool.step(wire);
+        let goes_on = add_step(alloc, &step, told);
+        drop(step);
+        if !goes_on? {
+            return Ok(());
+        }
+    }
     Ok(())
 }

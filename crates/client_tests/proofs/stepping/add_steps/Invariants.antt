@@ -1,7 +1,7 @@
 -- Each step leaves a pool that suits its wire.
 use Rattle.std.proofs.Common.{◌-◌}
 use Rattle.request_pool.specs.Owned.{SuitsWire}
-use Rattle.client_tests.proofs.stepping.steps.Given as goal
+use Rattle.client_tests.proofs.stepping.add_steps.Given as goal
 
 abbrev pub invariant-loop-done : goal.invariant-loop-done
 invariant-loop-done g l = SuitsWire l.pool (g.W.Wire.state l.wire)
