@@ -97,20 +97,7 @@ static WORKED: [Worked; 8] = [
     },
 ];
 
-/// What is told of a query that asked for so many pages, which are too many or too few.
-fn other_asks(asks: usize, query: &str) -> Fail {
-    Fail::new(format_args!("{asks} asks: {query}"))
-}
-
-/// Fails where the join did not ask for so many pages, or found other rows.
-fn check_seen(alloc: Global, worked: &Worked, seen: &mut Seen) -> Result<(), Fail> {
-    let asks = seen.asked.len();
-    if asks != worked.asks {
-        return Err(other_asks(asks, worked.query));
-    }
-    same_lines(alloc, &mut seen.rows, worked.rows)
-}
-
+/// Fails where the join does not ask for so many pages, or finds other rows.
 fn check(alloc: Global, worked: &Worked, order: Order) -> Result<(), Fail> {
     let setting = Setting {
         data: worked.data,
@@ -120,7 +107,12 @@ fn check(alloc: Global, worked: &Worked, order: Order) -> Result<(), Fail> {
         order,
     };
     let mut seen = finished(alloc, &setting)?;
-    check_seen(alloc, worked, &mut seen)
+    let asks = seen.asked.len();
+    if asks == worked.asks {
+        same_lines(alloc, &mut seen.rows, worked.rows)
+    } else {
+        Err(Fail::new(format_args!("{asks} asks: {}", worked.query)))
+    }
 }
 
 #[test]
@@ -207,12 +199,13 @@ fn counts(seen: &Seen) -> (usize, usize, usize, bool) {
     )
 }
 
-/// The same of chains in pages of five.
-fn counts_of(alloc: Global, chains: &str, window: u32) -> Result<(usize, usize, usize, bool), Fail>
+/// The same of twenty chains in pages of five.
+fn twenty(alloc: Global, window: u32) -> Result<(usize, usize, usize, bool), Fail>
     requires { 1 ≤ window }
 {
+    let chains = chains(alloc, 20)?;
     let setting = Setting {
-        data: chains,
+        data: chains.as_str(),
         page_size: 5,
         query: CHAIN_QUERY,
         window,
@@ -220,14 +213,6 @@ fn counts_of(alloc: Global, chains: &str, window: u32) -> Result<(usize, usize, 
     };
     let seen = finished(alloc, &setting)?;
     Ok(counts(&seen))
-}
-
-/// The same of twenty chains.
-fn twenty(alloc: Global, window: u32) -> Result<(usize, usize, usize, bool), Fail>
-    requires { 1 ≤ window }
-{
-    let chains = chains(alloc, 20)?;
-    counts_of(alloc, chains.as_str(), window)
 }
 
 /// How many pages twenty chains ask for: three first pages, three further ones, two for each `b` and one

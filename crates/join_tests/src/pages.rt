@@ -34,17 +34,6 @@ fn converse(
     Ok(())
 }
 
-/// All bytes of the answer to a request.
-fn answer_to(
-    alloc: Global,
-    server: &Server,
-    request: &[u8],
-    out: &mut Vec<u8>,
-) -> Result<(), OutOfMemory> {
-    let mut connection = Connection::new(alloc);
-    converse(&mut connection, server, request, out)
-}
-
 /// What the server answers for an address.
 fn response_at(
     alloc: Global,
@@ -54,7 +43,8 @@ fn response_at(
 ) -> Result<(), OutOfMemory> {
     let mut request = Vec::new(alloc);
     write_request(address.authority(), address.target(), &mut request)?;
-    answer_to(alloc, server, request.as_slice(), out)
+    let mut connection = Connection::new(alloc);
+    converse(&mut connection, server, request.as_slice(), out)
 }
 
 /// The body of a response.

@@ -75,21 +75,9 @@ fn fixed(pattern: &Pattern, binding: &Binding) -> Fixed {
     ]
 }
 
-/// Whether a triple may have these terms: its subject and its predicate are no literal.
-fn is_askable(fixed: &Fixed) -> bool {
-    fixed[0] != Some(LITERAL) && fixed[1] != Some(LITERAL)
-}
-
-fn fits_place(fixed: Option<usize>, term: usize) -> bool {
-    match fixed {
-        None => true,
-        Some(wanted) => wanted == term,
-    }
-}
-
 fn fits(fixed: &Fixed, fact: &Fact) -> bool {
     for i in 0..3usize {
-        if !fits_place(fixed[i], fact[i]) {
+        if fixed[i].is_some() && fixed[i] != Some(fact[i]) {
             return false;
         }
     }
@@ -106,23 +94,12 @@ fn count(data: &Data, fixed: &Fixed) -> usize {
     count
 }
 
-/// Gives a variable a term, and says whether that is its term then.
-fn bind(bound: &mut Option<usize>, term: usize) -> bool {
-    match *bound {
-        Some(wanted) => wanted == term,
-        None => {
-            *bound = Some(term);
-            true
-        }
-    }
-}
-
-/// Makes a place a term, and says whether it is this one then.
+/// Makes a place a term where it has none, and says whether it is this one then.
 fn extend(place: Place, binding: &mut Binding, term: usize) -> bool {
     match place {
         Place::Term(wanted) => wanted == term,
         Place::Variable(variable) => match binding.get_mut(variable) {
-            Some(bound) => bind(bound, term),
+            Some(bound) => *bound.get_or_insert(term) == term,
             None => false,
         },
     }
@@ -157,13 +134,6 @@ fn add_terms(text: &mut String, fixed: &Fixed) -> Result<char, Fail> {
     add_term(text, mark, "object=", fixed[2])
 }
 
-/// Adds the number of a page behind a mark.
-fn add_page(alloc: Global, text: &mut String, mark: char, page: usize) -> Result<(), Fail> {
-    text.push(mark)?;
-    let number = page.to_string(alloc)?;
-    add_all(text, &["page=", number.as_str()])
-}
-
 /// Adds the parameters of a page.
 fn add_parameters(
     alloc: Global,
@@ -173,7 +143,9 @@ fn add_parameters(
 ) -> Result<(), Fail> {
     let mark = add_terms(text, fixed)?;
     if page > 1 {
-        return add_page(alloc, text, mark, page);
+        text.push(mark)?;
+        let number = page.to_string(alloc)?;
+        return add_all(text, &["page=", number.as_str()]);
     }
     Ok(())
 }
@@ -219,11 +191,12 @@ fn without(rest: &Patterns, place: usize) -> Patterns {
     others
 }
 
-/// Whether a triple may be each of the patterns.
+/// Whether a triple may be each of the patterns: its subject and its predicate are no literal.
 fn are_askable(binding: &Binding, rest: &Patterns) -> bool {
     for pattern in rest {
         if let Some(pattern) = pattern {
-            if !is_askable(&fixed(pattern, binding)) {
+            let [subject, predicate, _] = fixed(pattern, binding);
+            if subject == Some(LITERAL) || predicate == Some(LITERAL) {
                 return false;
             }
         }

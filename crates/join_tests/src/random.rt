@@ -8,7 +8,7 @@ use bgp_core::{Row, solutions};
 use pattern_parser::parse;
 use rand_core::utils::NextWord;
 use rand_pcg::Pcg32;
-use rdf_terms::{Quad, Triple};
+use rdf_terms::Triple;
 use std::alloc::Global;
 use std::test::Fail;
 use test_servers::quads_of;
@@ -78,67 +78,41 @@ fn add_pattern(pattern: &Pattern, text: &mut String) -> Result<(), Fail> {
     Ok(())
 }
 
-/// The pattern without variables that is a triple.
-fn pattern_of(fact: &Fact) -> Pattern {
-    [
-        Place::Term(fact[0]),
-        Place::Term(fact[1]),
-        Place::Term(fact[2]),
-    ]
-}
-
+/// The text of triples, each of which is a pattern without variables.
 fn text_of_data(alloc: Global, data: &Data) -> Result<String, Fail> {
     let mut text = String::new(alloc);
     for fact in &data.facts {
-        add_pattern(&pattern_of(fact), &mut text)?;
+        let pattern = [
+            Place::Term(fact[0]),
+            Place::Term(fact[1]),
+            Place::Term(fact[2]),
+        ];
+        add_pattern(&pattern, &mut text)?;
     }
     Ok(text)
-}
-
-fn add_query(patterns: &Patterns, text: &mut String) -> Result<(), Fail> {
-    text.push_str("SELECT * WHERE { ")?;
-    for pattern in patterns {
-        if let Some(pattern) = pattern {
-            add_pattern(pattern, text)?;
-        }
-    }
-    text.push('}')?;
-    Ok(())
 }
 
 fn text_of_query(alloc: Global, patterns: &Patterns) -> Result<String, Fail> {
-    let mut text = String::new(alloc);
-    add_query(patterns, &mut text)?;
+    let mut text = String::from_str(alloc, "SELECT * WHERE { ")?;
+    for pattern in patterns {
+        if let Some(pattern) = pattern {
+            add_pattern(pattern, &mut text)?;
+        }
+    }
+    text.push('}')?;
     Ok(text)
 }
 
-fn add_triple(alloc: Global, quad: &Quad, triples: &mut Vec<Triple>) -> Result<(), Fail> {
-    triples.push(quad.triple.copy(alloc)?)?;
-    Ok(())
-}
-
-fn triples_of(alloc: Global, quads: &[Quad]) -> Result<Vec<Triple>, Fail> {
-    let mut triples = Vec::new(alloc);
-    for quad in quads {
-        add_triple(alloc, quad, &mut triples)?;
-    }
-    Ok(triples)
-}
-
-fn triples_of_text(alloc: Global, data: &str) -> Result<Vec<Triple>, Fail> {
+fn triples_of(alloc: Global, data: &str) -> Result<Vec<Triple>, Fail> {
     let quads = quads_of(alloc, data)?;
-    triples_of(alloc, quads.as_slice())
+    Ok(quads.into_iter().map(|quad| quad.triple).collect(alloc)?)
 }
 
-/// The solutions of a query's text over triples.
-fn rows_over(alloc: Global, triples: &[Triple], query: &str) -> Result<Vec<Row>, Fail> {
-    let query = parse(alloc, query.as_bytes())?;
-    Ok(solutions(alloc, triples, &query)?)
-}
-
+/// The solutions of a query over data.
 fn rows_of(alloc: Global, data: &str, query: &str) -> Result<Vec<Row>, Fail> {
-    let triples = triples_of_text(alloc, data)?;
-    rows_over(alloc, triples.as_slice(), query)
+    let triples = triples_of(alloc, data)?;
+    let query = parse(alloc, query.as_bytes())?;
+    Ok(solutions(alloc, triples.as_slice(), &query)?)
 }
 
 fn lines_of(alloc: Global, rows: &[Row]) -> Result<Vec<String>, Fail> {
@@ -149,15 +123,10 @@ fn lines_of(alloc: Global, rows: &[Row]) -> Result<Vec<String>, Fail> {
     Ok(lines)
 }
 
-/// The lines of the solutions of a query over data.
-fn lines_of_solutions(alloc: Global, data: &str, query: &str) -> Result<Vec<String>, Fail> {
-    let rows = rows_of(alloc, data, query)?;
-    lines_of(alloc, rows.as_slice())
-}
-
 /// The lines of the solutions of a query over data, sorted.
 fn solved(alloc: Global, data: &str, query: &str) -> Result<String, Fail> {
-    let mut lines = lines_of_solutions(alloc, data, query)?;
+    let rows = rows_of(alloc, data, query)?;
+    let mut lines = lines_of(alloc, rows.as_slice())?;
     sorted(alloc, &mut lines)
 }
 

@@ -2,8 +2,7 @@
 ghost use Rattle.std.specs.Prelude.{◌≡◌, ◌<◌, ◌+◌, ◌*◌, ◌≤◌, ◌^◌, ◌-◌, IfOk, OnOk};
 
 use crate::pages::page_at;
-use bgp_core::{Query, Row};
-use control_reader::Page;
+use bgp_core::Row;
 use join_core::Join;
 use nquads_text::canonical;
 use pattern_parser::parse;
@@ -86,21 +85,11 @@ fn add_terms(row: &Row, bytes: &mut Vec<u8>) -> Result<(), Fail> {
     Ok(())
 }
 
-/// The text that bytes are.
-fn text_of_bytes(alloc: Global, bytes: &[u8]) -> Result<String, Fail> {
-    Ok(String::from_str(alloc, str::from_utf8(bytes)?)?)
-}
-
-/// The terms of a row in canonical form, with a space behind each, in the order of the query's names.
-fn line(alloc: Global, row: &Row) -> Result<String, Fail> {
-    let mut bytes = Vec::new(alloc);
-    add_terms(row, &mut bytes)?;
-    text_of_bytes(alloc, bytes.as_slice())
-}
-
 /// Notes the line of a row.
 pub fn note_row(alloc: Global, row: &Row, lines: &mut Vec<String>) -> Result<(), Fail> {
-    lines.push(line(alloc, row)?)?;
+    let mut bytes = Vec::new(alloc);
+    add_terms(row, &mut bytes)?;
+    lines.push(String::from_utf8(bytes)?)?;
     Ok(())
 }
 
@@ -275,33 +264,12 @@ fn go(alloc: Global, run: &mut Run<'_>, way: Way, seen: &mut Seen) -> Result<(),
     }
 }
 
-/// Goes a way, and says how many asks are out then.
-fn out_after(alloc: Global, run: &mut Run<'_>, way: Way, seen: &mut Seen) -> Result<usize, Fail>
-    requires { run.old.join.tickets ≡ 0 }
-{
-    go(alloc, run, way, seen)?;
-    Ok(run.held.len())
-}
-
-/// The server's start page.
-fn start_page(alloc: Global, server: &Server) -> Result<Page, Fail> {
-    let base = WebAddress::read(alloc, BASE)?;
-    page_at(alloc, server, &base)
-}
-
 /// The form of the server's start page.
 fn forms_of(alloc: Global, server: &Server) -> Result<FormList, Fail> {
-    let page = start_page(alloc, server)?;
-    Ok(FormList::one(alloc, page.form))
-}
-
-/// A join of a query over a server.
-fn join_of(alloc: Global, server: &Server, query: &Query, window: u32) -> Result<Join, Fail>
-    requires { 1 ≤ window }
-    ensures { IfOk result (λ join. join.tickets ≡ 0) }
-{
-    let forms = forms_of(alloc, server)?;
-    Ok(Join::new(alloc, query, forms, window)?)
+    let base = WebAddress::read(alloc, BASE)?;
+    let page = page_at(alloc, server, &base);
+    drop(base);
+    Ok(FormList::one(alloc, page?.form))
 }
 
 /// A join of a query's text over a server.
@@ -310,35 +278,8 @@ fn join_over(alloc: Global, server: &Server, query: &str, window: u32) -> Result
     ensures { IfOk result (λ join. join.tickets ≡ 0) }
 {
     let query = parse(alloc, query.as_bytes())?;
-    join_of(alloc, server, &query, window)
-}
-
-/// A join over a server that begins.
-fn begun<'a>(alloc: Global, server: &'a Server, join: Join, order: Order) -> Run<'a>
-    ensures { result.join ≡ join }
-{
-    Run {
-        server,
-        join,
-        held: Vec::new(alloc),
-        order,
-        answered: 0,
-    }
-}
-
-/// Goes a way with a join that begins, and says how many asks are out then.
-fn play_join(
-    alloc: Global,
-    server: &Server,
-    join: Join,
-    order: Order,
-    way: Way,
-    seen: &mut Seen,
-) -> Result<usize, Fail>
-    requires { join.tickets ≡ 0 }
-{
-    let mut run = begun(alloc, server, join, order);
-    out_after(alloc, &mut run, way, seen)
+    let forms = forms_of(alloc, server)?;
+    Ok(Join::new(alloc, &query, forms, window)?)
 }
 
 /// Goes a way with a join over a server, and says how many asks are out then.
@@ -351,8 +292,17 @@ fn play_over(
 ) -> Result<usize, Fail>
     requires { 1 ≤ setting.now.window }
 {
-    let join = join_over(alloc, server, setting.query, setting.window)?;
-    play_join(alloc, server, join, setting.order, way, seen)
+    let mut run = Run {
+        server,
+        join: join_over(alloc, server, setting.query, setting.window)?,
+        held: Vec::new(alloc),
+        order: setting.order,
+        answered: 0,
+    };
+    match go(alloc, &mut run, way, seen) {
+        Ok(()) => Ok(run.held.len()),
+        Err(fail) => Err(fail),
+    }
 }
 
 /// Goes a way with a join, and says how many asks are out then.

@@ -27,17 +27,12 @@ pub fn sorted(alloc: Global, lines: &mut Vec<String>) -> Result<String, Fail> {
     Ok(all)
 }
 
-/// What is told of a text that is not the one that is wanted.
-fn other_text(text: &str, wanted: &str) -> Fail {
-    Fail::new(format_args!("wanted {wanted:?}, got {text:?}"))
-}
-
 /// Fails where a text is not the one that is wanted.
 fn same(text: &str, wanted: &str) -> Result<(), Fail> {
     if text == wanted {
         Ok(())
     } else {
-        Err(other_text(text, wanted))
+        Err(Fail::new(format_args!("wanted {wanted:?}, got {text:?}")))
     }
 }
 
