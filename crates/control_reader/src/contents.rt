@@ -30,6 +30,14 @@ fn have_blank(triples: &[Triple]) -> bool
     triples.iter().any(|triple| holds_blank(triple))
 }
 
+/// The triple of a quad.
+fn triple_of(quad: Quad) -> Triple
+    ensures { result ≡ quad.triple }
+{
+    drop(quad.graph);
+    quad.triple
+}
+
 /// The triples of the marked quads.
 fn marked(alloc: Global, quads: Vec<Quad>, marks: Vec<bool>) -> Result<Vec<Triple>, OutOfMemory>
     ensures { IfOk result (λ v. v.items ≡ marked quads.items marks.items) }
@@ -38,7 +46,7 @@ fn marked(alloc: Global, quads: Vec<Quad>, marks: Vec<bool>) -> Result<Vec<Tripl
         .into_iter()
         .zip(marks)
         .filter(|(_, mark)| *mark)
-        .map(|(quad, _)| quad.triple)
+        .map(|(quad, _)| triple_of(quad))
         .collect(alloc)?;
     Ok(triples)
 }
@@ -47,7 +55,10 @@ fn marked(alloc: Global, quads: Vec<Quad>, marks: Vec<bool>) -> Result<Vec<Tripl
 fn triples_of(alloc: Global, quads: Vec<Quad>) -> Result<Vec<Triple>, OutOfMemory>
     ensures { IfOk result (λ v. v.items ≡ triples_of quads.items) }
 {
-    let triples = quads.into_iter().map(|quad| quad.triple).collect(alloc)?;
+    let triples = quads
+        .into_iter()
+        .map(|quad| triple_of(quad))
+        .collect(alloc)?;
     Ok(triples)
 }
 

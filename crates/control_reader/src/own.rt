@@ -18,7 +18,7 @@ use page_controls::{first_marks, is_home};
 use rdf_terms::{LONGEST_READ, Quad, Triple};
 use std::alloc::Global;
 use template_fill::{AddressFault, Form, Template, TemplateFault, WebAddress};
-use tpf_base::{OutOfMemory, Text};
+use tpf_base::{OutOfMemory, Text, all_three};
 
 /// Why a body is not read in this way.
 #[derive(Clone, Copy)]
@@ -104,15 +104,6 @@ fn has_own_names(template: &Template) -> bool
     template.names("subject") && (template.names("predicate") && template.names("object"))
 }
 
-/// The names of our own of the variables for the subject and the predicate.
-fn own_names(alloc: Global) -> Result<(Text, Text), OutOfMemory>
-    ensures { IfOk result (λ names. names ≡ (codes "subject", codes "predicate")) }
-{
-    let subject = Text::copy(alloc, "subject")?;
-    let predicate = Text::copy(alloc, "predicate")?;
-    Ok((subject, predicate))
-}
-
 /// The form with this template and the variables of our own.
 fn with_own_names(alloc: Global, template: Template) -> Result<Form, OutOfMemory>
     ensures { IfOk result (λ form. form ≡ record {
@@ -122,8 +113,10 @@ fn with_own_names(alloc: Global, template: Template) -> Result<Form, OutOfMemory
       object = codes "object";
     }) }
 {
-    let (subject, predicate) = own_names(alloc)?;
-    let object = Text::copy(alloc, "object")?;
+    let subject = Text::copy(alloc, "subject");
+    let predicate = Text::copy(alloc, "predicate");
+    let object = Text::copy(alloc, "object");
+    let (subject, predicate, object) = all_three(subject, predicate, object)?;
     Ok(Form {
         template,
         subject,
