@@ -6,7 +6,7 @@
 //! ```rust
 //! let mut made = None;
 //! let answer = local(rt, alloc, asked, shelf, out, &mut made);
-//! *inside = inside_of(made);
+//! drop(mem::replace(inside, inside_of(made)));
 //! answer
 //! ```
 #![tactic(auto)]

@@ -13,3 +13,4 @@ pub mod Completed
 pub mod Answered
 pub mod GroupRequests
 pub mod Promised
+pub mod LineLemmas

@@ -21,6 +21,7 @@ use loop_wire::LoopWire;
 use query_command::{AnswerFault, Counts, LocalQuery, local, query, query_generated};
 use serve_command::{Service, ServiceFault, serve};
 use std::alloc::Global;
+use std::mem;
 use std::sync::Wait;
 use tpf_base::{Accept, Dial, Fault, Shelf, Sink};
 use tpf_client::{BlockSize, ClientFault, Options, Report};
@@ -88,7 +89,7 @@ pub fn ask_file<R: Wait, F: Shelf, K: Sink>(
     };
     let mut made = None;
     let answer = local(rt, alloc, &asked, shelf, out, &mut made);
-    *inside = inside_of(made);
+    drop(mem::replace(inside, inside_of(made)));
     answer
 }
 
@@ -226,6 +227,6 @@ pub fn ask_generated<R: Wait, F: Shelf, K: Sink>(
 {
     let mut left = None;
     let came = query_generated(rt, alloc, persons, name, shelf, &mut left);
-    *inside = inside_of(left);
+    drop(mem::replace(inside, inside_of(left)));
     write_numbers(alloc, out, came)
 }

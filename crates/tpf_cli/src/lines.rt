@@ -1,5 +1,6 @@
 // Lines on the standard error, and the one on the output.
-ghost use Rattle.std.specs.Prelude.{◌≡◌, ◌++◌, codes, decimal, IfOk, OnOk};
+ghost use Rattle.std.specs.Prelude.{◌≡◌, ◌++◌, codes, decimal, IfOk};
+ghost use Rattle.std.specs.List.{flat_map};
 ghost use Rattle.tpf_base.specs.Wrote.{WritesWhole};
 ghost use Rattle.data_files.specs.Kept.{KeepsSink};
 ghost use Rattle.tpf_cli.specs.Statuses.{code_of};
@@ -23,27 +24,31 @@ pub fn write_line<E: Sink>(err: &mut E, line: &[u8], status: Status) -> Status
     }
 }
 
+/// The parts, one behind another.
+fn line_of(alloc: Global, parts: &[&[u8]]) -> Result<Vec<u8>, OutOfMemory>
+    ensures { IfOk result (λ v. v.items ≡ flat_map (λ p. p.now) parts.now) }
+{
+    let mut text = Vec::new(alloc);
+    for part in parts {
+        text.extend_from_slice(part)?;
+    }
+    Ok(text)
+}
+
 /// A front, a number, the name of a fault and LF.
 fn fault_line(alloc: Global, front: &[u8], n: u64, why: &[u8]) -> Result<Vec<u8>, OutOfMemory>
     ensures { IfOk result (λ v. v.items ≡ front.now ++ decimal n ++ codes ": " ++ why.now ++ codes "\n") }
 {
     let mut buffer = Buffer::new();
-    let mut text = Vec::from_slice(alloc, front)?;
-    text.extend_from_slice(buffer.format(n).as_bytes())?;
-    text.extend_from_slice(b": ")?;
-    text.extend_from_slice(why)?;
-    text.extend_from_slice(b"\n")?;
-    Ok(text)
+    let number = buffer.format(n).as_bytes();
+    line_of(alloc, &[front, number, b": ", why, b"\n"])
 }
 
 /// A front, a name and LF.
 fn named_line(alloc: Global, front: &[u8], name: &[u8]) -> Result<Vec<u8>, OutOfMemory>
     ensures { IfOk result (λ v. v.items ≡ front.now ++ name.now ++ codes "\n") }
 {
-    let mut text = Vec::from_slice(alloc, front)?;
-    text.extend_from_slice(name)?;
-    text.extend_from_slice(b"\n")?;
-    Ok(text)
+    line_of(alloc, &[front, name, b"\n"])
 }
 
 /// A front, a number and LF.
@@ -51,48 +56,29 @@ fn number_line(alloc: Global, front: &[u8], n: u64) -> Result<Vec<u8>, OutOfMemo
     ensures { IfOk result (λ v. v.items ≡ front.now ++ decimal n ++ codes "\n") }
 {
     let mut buffer = Buffer::new();
-    let mut text = Vec::from_slice(alloc, front)?;
-    text.extend_from_slice(buffer.format(n).as_bytes())?;
-    text.extend_from_slice(b"\n")?;
-    Ok(text)
+    let number = buffer.format(n).as_bytes();
+    named_line(alloc, front, number)
 }
 
-/// The counts of requests and of rows.
-fn counts_line(alloc: Global, requests: u64, rows: u64) -> Result<Vec<u8>, OutOfMemory>
-    ensures { IfOk result (λ v. v.items ≡ counts_text requests rows) }
+/// A front, a number, the number of the rows and LF.
+fn rows_line(alloc: Global, front: &[u8], n: u64, rows: u64) -> Result<Vec<u8>, OutOfMemory>
+    ensures { IfOk result (λ v. v.items ≡ front.now ++ decimal n ++ codes " rows " ++ decimal rows ++ codes "\n") }
 {
     let mut buffer = Buffer::new();
-    let mut text = Vec::from_slice(alloc, b"requests ")?;
-    text.extend_from_slice(buffer.format(requests).as_bytes())?;
-    text.extend_from_slice(b" rows ")?;
-    text.extend_from_slice(buffer.format(rows).as_bytes())?;
-    text.extend_from_slice(b"\n")?;
-    Ok(text)
+    let number = buffer.format(n).as_bytes();
+    let mut other = Buffer::new();
+    let count = other.format(rows).as_bytes();
+    line_of(alloc, &[front, number, b" rows ", count, b"\n"])
 }
 
-/// The numbers of the triples and of the rows.
-fn sizes_line(alloc: Global, counts: Counts) -> Result<Vec<u8>, OutOfMemory>
-    ensures { IfOk result (λ v. v.items ≡ sizes_text counts) }
+/// A version, or `none`.
+fn version_text(buffer: &mut Buffer, version: Option<u64>) -> &[u8]
+    ensures { result.now ≡ version_text version }
 {
-    let mut buffer = Buffer::new();
-    let mut text = Vec::from_slice(alloc, b"triples ")?;
-    text.extend_from_slice(buffer.format(counts.triples).as_bytes())?;
-    text.extend_from_slice(b" rows ")?;
-    text.extend_from_slice(buffer.format(counts.rows).as_bytes())?;
-    text.extend_from_slice(b"\n")?;
-    Ok(text)
-}
-
-/// Appends a version, or `none`.
-fn push_version(text: &mut Vec<u8>, version: Option<u64>) -> Result<(), OutOfMemory>
-    ensures { OnOk result (text.new.items ≡ text.old.items ++ version_text version) }
-{
-    let mut buffer = Buffer::new();
     match version {
-        Some(n) => text.extend_from_slice(buffer.format(n).as_bytes())?,
-        None => text.extend_from_slice(b"none")?,
+        Some(n) => buffer.format(n).as_bytes(),
+        None => b"none",
     }
-    Ok(())
 }
 
 /// Two versions.
@@ -103,12 +89,11 @@ fn versions_line(
 ) -> Result<Vec<u8>, OutOfMemory>
     ensures { IfOk result (λ v. v.items ≡ versions_text first other) }
 {
-    let mut text = Vec::from_slice(alloc, b"changed: ")?;
-    push_version(&mut text, first)?;
-    text.extend_from_slice(b" ")?;
-    push_version(&mut text, other)?;
-    text.extend_from_slice(b"\n")?;
-    Ok(text)
+    let mut buffer = Buffer::new();
+    let one = version_text(&mut buffer, first);
+    let mut buffer = Buffer::new();
+    let two = version_text(&mut buffer, other);
+    line_of(alloc, &[b"changed: ", one, b" ", two, b"\n"])
 }
 
 /// Writes a line that is a front, a number, the name of a fault and LF.
@@ -171,7 +156,7 @@ pub fn write_counts<E: Sink>(alloc: Global, err: &mut E, requests: u64, rows: u6
     ensures says { SaysLine (code_of result) 0 (counts_text requests rows) (E.state err.old) (E.state err.new) }
     ensures keeps { KeepsSink (E.state err.old) (E.state err.new) }
 {
-    match counts_line(alloc, requests, rows) {
+    match rows_line(alloc, b"requests ", requests, rows) {
         Ok(text) => write_line(err, &text, Status::Done),
         Err(_) => Status::Memory,
     }
@@ -182,7 +167,7 @@ pub fn write_counts<E: Sink>(alloc: Global, err: &mut E, requests: u64, rows: u6
 pub fn write_sizes<K: Sink>(alloc: Global, out: &mut K, counts: Counts) -> Result<(), Fault>
     ensures { WritesWhole (sizes_text counts) (K.state out.old) (K.state out.new) result }
 {
-    match sizes_line(alloc, counts) {
+    match rows_line(alloc, b"triples ", counts.triples, counts.rows) {
         Ok(text) => write_all(out, &text),
         Err(_) => Err(Fault::OutOfMemory),
     }

@@ -76,9 +76,11 @@ fn obey<'a, R: Wait, F: Shelf, W: Dial + Accept, K: Sink>(
     match command {
         Command::Local(words) => {
             let answer = ask_file(rt, alloc, &words, shelf, out, inside);
+            let (data, query) = (words.name, words.query);
+            drop(words);
             Ending::Answered {
-                data: words.name,
-                query: words.query,
+                data,
+                query,
                 answer,
             }
         }
@@ -209,5 +211,7 @@ pub fn run<R: Wait, F: Shelf, W: Dial + Accept, K: Sink, E: Sink>(
     ensures out { IsWithoutOutput (command_of (map string_bytes words.now)) → out.new ≡ out.old }
 {
     let ending = ending_of(rt, alloc, words, shelf, wire, out, inside);
-    say(alloc, err, &ending).code()
+    let status = say(alloc, err, &ending);
+    drop(ending);
+    status.code()
 }

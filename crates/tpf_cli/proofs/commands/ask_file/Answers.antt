@@ -7,4 +7,4 @@ local-answer-requires-clause-bounds g c = options_in _ _ c.options_of.ensures c.
 
 pub returns : goal.returns
 returns g c =
-    asked_file (g.F.Shelf.state c.args.shelf.now) (g.F.Shelf.state c.local-answer.new.shelf) (g.K.Sink.state c.args.out.now) (g.K.Sink.state c.local-answer.new.out) _ _ c.args.words.now c.options_of.result c.local-answer.result c.inside_of.ensures c.options_of.ensures c.local-answer.ensures
+    rw c.replace.ensures.after (asked_file (g.F.Shelf.state c.args.shelf.now) (g.F.Shelf.state c.local-answer.new.shelf) (g.K.Sink.state c.args.out.now) (g.K.Sink.state c.local-answer.new.out) _ _ c.args.words.now c.options_of.result c.local-answer.result c.inside_of.ensures c.options_of.ensures c.local-answer.ensures)
