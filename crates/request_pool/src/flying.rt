@@ -231,6 +231,7 @@ impl Pool {
         if flight.failed >= self.retries {
             return Err(fault);
         }
+        drop(fault);
         let again = Waiting {
             ticket: flight.ticket,
             address: flight.exchange.into_address(),

@@ -121,6 +121,7 @@ impl Pool {
         if ends(&left) {
             return left;
         }
+        drop(left);
         self.run(wire, buffer)
     }
 
@@ -141,11 +142,13 @@ impl Pool {
         if ends(&started) {
             return started;
         }
+        drop(started);
         self.begin_round();
         let polled = self.poll_all(wire, buffer);
         if ends(&polled) {
             return polled;
         }
+        drop(polled);
         let again = self.start_all(wire, buffer);
         self.bounds();
         again
@@ -185,6 +188,7 @@ impl Pool {
             if ends(&started) {
                 return started;
             }
+            drop(started);
         }
         Ok(Polled::Pending)
     }
@@ -206,6 +210,7 @@ impl Pool {
             if ends(&polled) {
                 return polled;
             }
+            drop(polled);
         }
         Ok(Polled::Pending)
     }

@@ -47,7 +47,10 @@ impl Pool {
             Some(flight) => {
                 shut(wire, flight.exchange.link());
                 match self.fail(flight, fault) {
-                    Ok(_) => Ok(Stepped::Waited),
+                    Ok(polled) => {
+                        drop(polled);
+                        Ok(Stepped::Waited)
+                    }
                     Err(fault) => Err(fault),
                 }
             }

@@ -17,8 +17,8 @@ pub returns-then-ends-clause-suits : goal.returns-then-ends-clause-suits
 returns-then-ends-clause-suits g c = start_suits c.start-started.result c.args.self.now c.loop-self.self c.start-started.new.self (g.W.Wire.state c.args.wire.now) (g.W.Wire.state c.loop-self.wire) (g.W.Wire.state c.start-started.new.wire)
     c.requires.suits (g.met.W.Wire.given_alone c.args.wire.now) c.loop-self.invariant.running c.start-started.ensures.starts
 
-pub loop-self-preserved-else-ends-2 : goal.loop-self-preserved-else-ends-2
-loop-self-preserved-else-ends-2 g c = record {
+pub loop-self-preserved : goal.loop-self-preserved
+loop-self-preserved g c = record {
   running = runs_more c.args.self.now c.loop-self.self c.start-started.new.self (g.W.Wire.state c.args.wire.now) (g.W.Wire.state c.loop-self.wire) (g.W.Wire.state c.start-started.new.wire) c.loop-self.invariant.running
       (Start c.start-started.result (sym c.ends.ensures ∙ c.if-ends.false) c.start-started.ensures.starts);
   due = starts_due c.start-started.result c.loop-self.self c.start-started.new.self (g.W.Wire.state c.loop-self.wire) (g.W.Wire.state c.start-started.new.wire) c.start-started.ensures.starts ∙ c.loop-self.invariant.due;
