@@ -103,14 +103,12 @@ fn push_report(out: &mut String, report: &Report) -> Result<(), Fail> {
     push_version(out, report.version)
 }
 
-/// What came of a call, as text.
-pub fn told(alloc: Global, ended: &Result<Report, ClientFault>) -> Result<String, Fail> {
-    let mut text = String::new(alloc);
+/// Adds what came of a call.
+fn push_told(out: &mut String, ended: &Result<Report, ClientFault>) -> Result<(), Fail> {
     match ended {
-        Ok(report) => push_report(&mut text, report)?,
-        Err(fault) => push_fault(&mut text, fault)?,
+        Ok(report) => push_report(out, report),
+        Err(fault) => push_fault(out, fault),
     }
-    Ok(text)
 }
 
 /// Fails where a text is not the one that is wanted.
@@ -151,8 +149,12 @@ pub fn of_call(
     ended: &Result<Report, ClientFault>,
     sink: MemSink,
 ) -> Result<Came, Fail> {
-    let told = told(alloc, ended)?;
-    Ok(Came { told, sink })
+    let mut came = Came {
+        told: String::new(alloc),
+        sink,
+    };
+    push_told(&mut came.told, ended)?;
+    Ok(came)
 }
 
 /// Asks a query that was parsed of the server at this address.
@@ -163,14 +165,15 @@ fn ask_for<R: Wait, W: Dial>(
     base: &str,
     options: &Options,
     wire: &mut W,
-    fails: Failing,
+    mut out: MemSink,
 ) -> Result<Came, Fail>
     requires { SuitsCalls options.now }
 {
     let start = WebAddress::read(alloc, base)?;
-    let mut out = MemSink::new(alloc, fails);
     let ended = query(rt, alloc, asked, &start, options, wire, &mut out);
-    of_call(alloc, &ended, out)
+    let came = of_call(alloc, &ended, out);
+    drop(ended);
+    came
 }
 
 /// Asks a query of the server at this address.
@@ -185,8 +188,9 @@ pub fn ask_at<R: Wait, W: Dial>(
 ) -> Result<Came, Fail>
     requires { SuitsCalls options.now }
 {
+    let out = MemSink::new(alloc, fails);
     let asked = parse(alloc, text.as_bytes())?;
-    ask_for(rt, alloc, &asked, base, options, wire, fails)
+    ask_for(rt, alloc, &asked, base, options, wire, out)
 }
 
 /// Asks a query of the server at [`BASE`].

@@ -22,7 +22,7 @@ const QUERY: &str = "SELECT * WHERE { ?x <http://e/k> ?y . ?y <http://e/n> ?z }"
 const FRONT: &str = "{\"head\":{\"vars\":[\"x\",\"y\",\"z\"]},\"results\":{\"bindings\":[";
 
 /// The whole result, the row of `a` first, and that of `b` first.
-const WHOLE: [&str; 2] = [
+static WHOLE: [&str; 2] = [
     "{\"head\":{\"vars\":[\"x\",\"y\",\"z\"]},\"results\":{\"bindings\":[\
 {\"x\":{\"type\":\"uri\",\"value\":\"http://e/a\"},\
 \"y\":{\"type\":\"uri\",\"value\":\"http://e/c\"},\
@@ -39,23 +39,11 @@ const WHOLE: [&str; 2] = [
 \"z\":{\"type\":\"literal\",\"value\":\"C\"}}]}}\n",
 ];
 
-/// A server of the data.
-fn server(alloc: Global) -> Result<FragmentServer, Fail> {
-    Ok(FragmentServer::new(server_of(alloc, DATA, 100)?))
-}
-
-fn one_call(alloc: Global, call: u64) -> Result<Vec<u64>, Fail> {
-    let mut calls = Vec::new(alloc);
-    calls.push(call)?;
-    Ok(calls)
-}
-
-/// A wire of this seed whose call with this number fails.
+/// A wire of this seed to a server of the data, whose call with this number fails.
 fn wire_of(alloc: Global, seed: u64, call: u64) -> Result<LoopWire<FragmentConnection>, Fail> {
-    let calls = one_call(alloc, call)?;
-    let server = server(alloc)?;
-    let wire: LoopWire<FragmentConnection> = LoopWire::new(alloc, server, seed, Failing::At(calls));
-    Ok(wire)
+    let calls = Vec::from_slice(alloc, &[call])?;
+    let server = FragmentServer::new(server_of(alloc, DATA, 100)?);
+    Ok(LoopWire::new(alloc, server, seed, Failing::At(calls)))
 }
 
 /// Options with so many retries.
@@ -70,7 +58,7 @@ fn options_with(retries: u32) -> Options
 }
 
 /// What comes of a query over a wire of this seed whose call with this number fails.
-fn came_of<R: Wait>(
+fn came<R: Wait>(
     rt: &R,
     alloc: Global,
     query: &str,
@@ -87,11 +75,6 @@ fn came_of<R: Wait>(
         &mut wire,
         Failing::Never,
     )
-}
-
-/// The same of the query of two patterns.
-fn came<R: Wait>(rt: &R, alloc: Global, seed: u64, call: u64, retries: u32) -> Result<Came, Fail> {
-    came_of(rt, alloc, QUERY, seed, call, retries)
 }
 
 /// Whether a text is the whole result, in either order of its rows.
@@ -116,7 +99,7 @@ fn check_first(came: &Came, call: u64) -> Result<(), Fail> {
 
 /// Fails where a query over the wire of this seed does not bring the rows at the first try.
 fn check_seed<R: Wait>(rt: &R, alloc: Global, seed: u64) -> Result<(), Fail> {
-    let came = came(rt, alloc, seed, 0, 0)?;
+    let came = came(rt, alloc, QUERY, seed, 0, 0)?;
     check_first(&came, seed)
 }
 
@@ -130,7 +113,7 @@ fn every_seed_brings_the_same_rows(rt: HostRuntime) -> Result<(), Fail> {
 
 /// Fails where a query does not bring the rows, of whose calls one fails and may be made again.
 fn check_retried<R: Wait>(rt: &R, alloc: Global, call: u64) -> Result<(), Fail> {
-    let came = came(rt, alloc, 1, call, 2)?;
+    let came = came(rt, alloc, QUERY, 1, call, 2)?;
     check_whole(&came, call)
 }
 
@@ -147,15 +130,6 @@ fn is_front(text: &str) -> bool {
     (text.is_empty() || text.starts_with(FRONT)) && !is_whole(text)
 }
 
-/// Fails where the text of a query that ended early is another one.
-fn check_front(came: &Came, call: u64) -> Result<(), Fail> {
-    let text = came.text()?;
-    if !is_front(text) {
-        return Err(unwanted(call, "exchange", text));
-    }
-    Ok(())
-}
-
 /// Whether a query ends of whose calls one fails; it fails where that leaves another text, or where
 /// else the query does not bring the rows at the first try.
 fn has_ended(came: &Came, call: u64) -> Result<bool, Fail> {
@@ -163,12 +137,15 @@ fn has_ended(came: &Came, call: u64) -> Result<bool, Fail> {
         check_first(came, call)?;
         return Ok(false);
     }
-    check_front(came, call)?;
+    let text = came.text()?;
+    if !is_front(text) {
+        return Err(unwanted(call, "exchange", text));
+    }
     Ok(true)
 }
 
 fn ends_at<R: Wait>(rt: &R, alloc: Global, call: u64) -> Result<bool, Fail> {
-    let came = came(rt, alloc, 1, call, 0)?;
+    let came = came(rt, alloc, QUERY, 1, call, 0)?;
     has_ended(&came, call)
 }
 
@@ -188,7 +165,7 @@ fn without_a_retry_a_call_that_fails_ends_the_query(rt: HostRuntime) -> Result<(
 /// fails.
 fn check_one<R: Wait>(rt: &R, alloc: Global, call: u64, wanted: &str) -> Result<(), Fail> {
     let query = "SELECT * WHERE { ?x <http://e/n> ?y }";
-    let came = came_of(rt, alloc, query, 1, call, 2)?;
+    let came = came(rt, alloc, query, 1, call, 2)?;
     same(came.told.as_str(), wanted)
 }
 

@@ -43,12 +43,17 @@ fn asked<R: Wait>(
     requires some { 1 ≤ links }
     requires few { links ≤ MOST_LINKS }
 {
-    let mut wire = wire_of(alloc, words, after)?;
-    ask(rt, alloc, query, &options_over(links), &mut wire, fails)
+    match wire_of(alloc, words, after) {
+        Ok(mut wire) => ask(rt, alloc, query, &options_over(links), &mut wire, fails),
+        Err(fail) => {
+            drop(fails);
+            Err(fail)
+        }
+    }
 }
 
 /// The replies, and what comes of them: the reply to the start, then the one that matters.
-const REPLIES: [(&str, &str); 19] = [
+static REPLIES: [(&str, &str); 19] = [
     (
         "f7dn f7dn f7dn f7dn f7dn f7dn f7dn f7dn f7dn f7dn f7dn",
         "budget 10",
@@ -93,21 +98,16 @@ fn check_told<R: Wait>(
     same(came.told.as_str(), wanted)
 }
 
-/// Fails where something else comes of some replies.
-fn check_each_told<R: Wait>(rt: &R, alloc: Global, rows: &[(&str, &str)]) -> Result<(), Fail> {
-    for (words, wanted) in rows {
-        check_told(rt, alloc, ALL, words, 0, 4, wanted)?;
+#[test]
+fn what_no_server_should_say_has_its_name(rt: HostRuntime) -> Result<(), Fail> {
+    for (words, wanted) in &REPLIES {
+        check_told(&rt, rt.alloc(), ALL, words, 0, 4, wanted)?;
     }
     Ok(())
 }
 
-#[test]
-fn what_no_server_should_say_has_its_name(rt: HostRuntime) -> Result<(), Fail> {
-    check_each_told(&rt, rt.alloc(), REPLIES.as_slice())
-}
-
 /// The replies, and the text that the sink took.
-const TEXTS: [(&str, &str); 6] = [
+static TEXTS: [(&str, &str); 6] = [
     ("-404", ""),
     ("-empty", ""),
     ("f7 -404", FRONT),
@@ -125,17 +125,12 @@ fn check_text<R: Wait>(rt: &R, alloc: Global, words: &str, wanted: &str) -> Resu
     came.check_text(wanted)
 }
 
-/// Fails where something else is written of some replies.
-fn check_each_text<R: Wait>(rt: &R, alloc: Global, rows: &[(&str, &str)]) -> Result<(), Fail> {
-    for (words, wanted) in rows {
-        check_text(rt, alloc, words, wanted)?;
-    }
-    Ok(())
-}
-
 #[test]
 fn what_was_found_is_written(rt: HostRuntime) -> Result<(), Fail> {
-    check_each_text(&rt, rt.alloc(), TEXTS.as_slice())
+    for (words, wanted) in &TEXTS {
+        check_text(&rt, rt.alloc(), words, wanted)?;
+    }
+    Ok(())
 }
 
 const FOUR: &str = "SELECT * WHERE { ?a <u:p> ?b . ?b <u:q> ?c . ?c <u:r> ?d . ?d <u:s> ?e }";

@@ -176,51 +176,25 @@ fn reply(alloc: Global, word: &str, number: usize) -> Result<String, Fail> {
     }
 }
 
-/// A link on which this reply comes, once so many links had a byte sent, and then the end.
-fn script(alloc: Global, reply: &str, after: u64) -> Result<Script, Fail> {
-    let piece = Bytes::copy(alloc, reply.as_bytes())?;
+/// The link of the word with this number, on which its reply comes and then the end. The reply of
+/// the second one is held back until so many links had a byte sent.
+fn script(alloc: Global, number: usize, word: &str, after: u64) -> Result<Script, Fail> {
+    let text = reply(alloc, word, number.saturating_add(2))?;
     let mut pieces = Vec::new(alloc);
-    pieces.push(piece)?;
+    pieces.push(Bytes::from_vec(text.into_bytes()))?;
     Ok(Script {
-        after,
+        after: if number == 1 { after } else { 0 },
         pieces,
         ends: true,
         most: 65536,
     })
 }
 
-/// The link of the word with this number. The reply of the second one is held back until so many
-/// links had a byte sent.
-fn script_of(alloc: Global, number: usize, word: &str, after: u64) -> Result<Script, Fail> {
-    let text = reply(alloc, word, number.saturating_add(2))?;
-    let held = if number == 1 { after } else { 0 };
-    script(alloc, text.as_str(), held)
-}
-
-/// Adds the link of the word with this number.
-fn push_script(
-    alloc: Global,
-    scripts: &mut Vec<Script>,
-    number: usize,
-    word: &str,
-    after: u64,
-) -> Result<(), Fail> {
-    let script = script_of(alloc, number, word, after)?;
-    scripts.push(script)?;
-    Ok(())
-}
-
-/// The links of these words, of which the second is held back so.
-fn scripts(alloc: Global, words: &str, after: u64) -> Result<Vec<Script>, Fail> {
-    let mut scripts = Vec::new(alloc);
-    for (number, word) in words.split(' ').enumerate() {
-        push_script(alloc, &mut scripts, number, word, after)?;
-    }
-    Ok(scripts)
-}
-
 /// A wire with a link for each word, of which the second is held back so.
 pub fn wire_of(alloc: Global, words: &str, after: u64) -> Result<ScriptWire, Fail> {
-    let scripts = scripts(alloc, words, after)?;
+    let mut scripts = Vec::new(alloc);
+    for (number, word) in words.split(' ').enumerate() {
+        scripts.push(script(alloc, number, word, after)?)?;
+    }
     Ok(ScriptWire::new(alloc, scripts, Failing::Never))
 }

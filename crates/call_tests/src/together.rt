@@ -32,18 +32,11 @@ fn options_for_two() -> Options
     }
 }
 
-/// Adds the address that a text is.
-fn push_start(alloc: Global, starts: &mut Vec<WebAddress>, text: &str) -> Result<(), Fail> {
-    let start = WebAddress::read(alloc, text)?;
-    starts.push(start)?;
-    Ok(())
-}
-
 /// The addresses that these texts are.
 fn starts_of(alloc: Global, texts: &[&str]) -> Result<Vec<WebAddress>, Fail> {
     let mut starts = Vec::new(alloc);
     for text in texts {
-        push_start(alloc, &mut starts, text)?;
+        starts.push(WebAddress::read(alloc, text)?)?;
     }
     Ok(starts)
 }
@@ -62,7 +55,9 @@ fn ask_for<R: Wait>(
     let options = options_for_two();
     let mut out = MemSink::new(alloc, Failing::Never);
     let ended = federate(rt, alloc, asked, starts, &options, wire, &mut out);
-    of_call(alloc, &ended, out)
+    let came = of_call(alloc, &ended, out);
+    drop(ended);
+    came
 }
 
 /// Asks a query of the servers at these addresses.
@@ -110,7 +105,7 @@ fn ask_both<R: Wait>(rt: &R, alloc: Global, pair: &Pair, other: &str) -> Result<
 }
 
 /// Pairs, and what is told of their queries.
-const PAIRS_TOLD: [(Pair, &str); 3] = [
+static PAIRS_TOLD: [(Pair, &str); 3] = [
     // A row is made of what both hold.
     (
         Pair {
@@ -154,20 +149,15 @@ fn check_told<R: Wait>(rt: &R, alloc: Global, pair: &Pair, wanted: &str) -> Resu
     same(came.told.as_str(), wanted)
 }
 
-/// Fails where something else is told of the query of one of these pairs.
-fn check_each<R: Wait>(rt: &R, alloc: Global, rows: &[(Pair, &str)]) -> Result<(), Fail> {
-    for (pair, wanted) in rows {
-        check_told(rt, alloc, pair, wanted)?;
+#[test]
+fn rows_are_made_of_what_two_servers_hold(rt: HostRuntime) -> Result<(), Fail> {
+    for (pair, wanted) in &PAIRS_TOLD {
+        check_told(&rt, rt.alloc(), pair, wanted)?;
     }
     Ok(())
 }
 
-#[test]
-fn rows_are_made_of_what_two_servers_hold(rt: HostRuntime) -> Result<(), Fail> {
-    check_each(&rt, rt.alloc(), PAIRS_TOLD.as_slice())
-}
-
-const SHARED: Pair = Pair {
+static SHARED: Pair = Pair {
     first: "<http://e/s> <http://e/p> <http://e/o> .\n",
     second: "<http://e/s> <http://e/p> <http://e/o> .\n<http://e/s> <http://e/p> <http://e/o2> .\n",
     page_size: 100,
