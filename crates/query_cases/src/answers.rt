@@ -7,29 +7,45 @@ use group_query::GroupQuery;
 use group_rows::evaluate;
 use std::alloc::Global;
 
+/// Appends a mark and a text behind it.
+fn push_behind(mark: &str, text: &str, out: &mut String) -> Result<(), CaseFault> {
+    out.push_str(mark)?;
+    Ok(out.push_str(text)?)
+}
+
 /// The words of the selected names in a row.
 fn row_text(alloc: Global, shown: &Query, row: &Row) -> Result<String, CaseFault> {
     let mut out = String::new(alloc);
     for (i, name) in shown.selected().iter().enumerate() {
-        out.push_str(if i == 0 { "" } else { " " })?;
-        out.push_str(word_of(row, *name))?;
+        let mark = if i == 0 { "" } else { " " };
+        push_behind(mark, word_of(row, *name), &mut out)?;
+    }
+    Ok(out)
+}
+
+/// The texts of rows, in the order in which they stand.
+fn row_texts(alloc: Global, shown: &Query, rows: &[Row]) -> Result<Vec<String>, CaseFault> {
+    let mut texts = Vec::new(alloc);
+    for row in rows {
+        texts.push(row_text(alloc, shown, row)?)?;
+    }
+    Ok(texts)
+}
+
+/// How many texts there are, and they, with `; ` between each two.
+fn counted_text(alloc: Global, texts: &[String]) -> Result<String, CaseFault> {
+    let mut out = format!(in alloc; "{}:", texts.len())?;
+    for (i, text) in texts.iter().enumerate() {
+        push_behind(if i == 0 { " " } else { "; " }, text.as_str(), &mut out)?;
     }
     Ok(out)
 }
 
 /// The rows of a query in the order of their bytes, with `; ` between each two.
 pub fn rows_text(alloc: Global, shown: &Query, rows: &[Row]) -> Result<String, CaseFault> {
-    let mut texts = Vec::new(alloc);
-    for row in rows {
-        texts.push(row_text(alloc, shown, row)?)?;
-    }
+    let mut texts = row_texts(alloc, shown, rows)?;
     texts.sort()?;
-    let mut out = format!(in alloc; "{}:", rows.len())?;
-    for (i, text) in texts.iter().enumerate() {
-        out.push_str(if i == 0 { " " } else { "; " })?;
-        out.push_str(text.as_str())?;
-    }
-    Ok(out)
+    counted_text(alloc, texts.as_slice())
 }
 
 /// The rows of a query over the rows of its blocks.

@@ -60,14 +60,17 @@ fn push_part(alloc: Global, part: &Part, out: &mut Vec<u8>) -> Result<(), CaseFa
     }
 }
 
+/// Appends a part of a pattern, and the byte behind it.
+fn push_ended(alloc: Global, part: &Part, end: u8, out: &mut Vec<u8>) -> Result<(), CaseFault> {
+    push_part(alloc, part, out)?;
+    Ok(out.push(end)?)
+}
+
 /// Appends a pattern, with a semicolon behind it.
 pub fn push_pattern(alloc: Global, pattern: &Pattern, out: &mut Vec<u8>) -> Result<(), CaseFault> {
-    push_part(alloc, &pattern.subject, out)?;
-    out.push(b' ')?;
-    push_part(alloc, &pattern.predicate, out)?;
-    out.push(b' ')?;
-    push_part(alloc, &pattern.object, out)?;
-    Ok(out.push(b';')?)
+    push_ended(alloc, &pattern.subject, b' ', out)?;
+    push_ended(alloc, &pattern.predicate, b' ', out)?;
+    push_ended(alloc, &pattern.object, b';', out)
 }
 
 /// The patterns of a query, with a semicolon behind each.

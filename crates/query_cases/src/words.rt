@@ -197,16 +197,17 @@ fn given(alloc: Global, text: Result<Text, OutOfMemory>) -> Result<String, CaseF
 fn shown(alloc: Global, chars: &[char], show: &str) -> Result<String, CaseFault>
     requires { length chars.now ≤ LONGEST_QUERY }
 {
-    match show {
-        "resolved" => given(alloc, resolved_text(alloc, chars)),
-        "prefix" => given(alloc, prefix_text(alloc, chars)),
-        "local" => given(alloc, local_text(alloc, chars)),
-        "all" => given(alloc, text_of(alloc, chars)),
-        "behind" => given(alloc, text_after_first(alloc, chars)),
-        "select" => truth_text(alloc, same_word(b"select", chars)),
-        "a" => truth_text(alloc, is_a(chars)),
-        _ => Err(CaseFault::Row),
-    }
+    let text = match show {
+        "resolved" => resolved_text(alloc, chars),
+        "prefix" => prefix_text(alloc, chars),
+        "local" => local_text(alloc, chars),
+        "all" => text_of(alloc, chars),
+        "behind" => text_after_first(alloc, chars),
+        "select" => return truth_text(alloc, same_word(b"select", chars)),
+        "a" => return truth_text(alloc, is_a(chars)),
+        _ => return Err(CaseFault::Row),
+    };
+    given(alloc, text)
 }
 
 /// `text`, `show`: what the characters of a token say: `resolved` without its marks and escapes, the `prefix` and the
