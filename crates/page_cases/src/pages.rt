@@ -52,7 +52,10 @@ fn filled(alloc: Global, form: &Form, slots: &Slots) -> Result<String, CaseFault
 
 /// The names of the form, and the address that it gives where nothing is fixed.
 fn form(alloc: Global, page: &Page) -> Result<String, CaseFault> {
-    filled(alloc, &page.form, &free())
+    let slots = free();
+    let text = filled(alloc, &page.form, &slots);
+    drop(slots);
+    text
 }
 
 /// Appends the terms of a triple.

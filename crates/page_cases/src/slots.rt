@@ -36,10 +36,12 @@ fn term_text(alloc: Global, term: &Term) -> Result<String, CaseFault>
 /// The term of a slot in canonical text, and its explicit form.
 fn slot_text(alloc: Global, slot: Slot) -> Result<String, CaseFault> {
     let slot = no_blank(slot)?;
-    match &slot {
+    let text = match &slot {
         Slot::Any => word_text(alloc, "any"),
         Slot::Fixed(term) => term_text(alloc, term),
-    }
+    };
+    drop(slot);
+    text
 }
 
 /// `text`: the slot that is read of it: its term's canonical text and its explicit form, or the fault.
@@ -112,9 +114,9 @@ fn row_text(alloc: Global, row: &Slots) -> Result<String, CaseFault> {
 }
 
 /// The places of a row that was read, or `none` for a text that is no row.
-fn told_row(alloc: Global, read: &Result<Option<Slots>, OutOfMemory>) -> Result<String, CaseFault> {
+fn told_row(alloc: Global, read: Result<Option<Slots>, OutOfMemory>) -> Result<String, CaseFault> {
     match read {
-        Ok(Some(row)) => row_text(alloc, row),
+        Ok(Some(row)) => row_text(alloc, &row),
         Ok(None) => word_text(alloc, "none"),
         Err(_) => Err(CaseFault::OutOfMemory),
     }
@@ -124,7 +126,7 @@ fn told_row(alloc: Global, read: &Result<Option<Slots>, OutOfMemory>) -> Result<
 /// `none`, where it is no row.
 pub fn row(alloc: Global, case: &mut Case<'_>) -> Result<String, CaseFault> {
     let text = case.text(alloc, "text")?;
-    told_row(alloc, &read_row(alloc, text.as_str()))
+    told_row(alloc, read_row(alloc, text.as_str()))
 }
 
 /// `subject`, `predicate`, `object`: how many bytes the row takes in an address.
