@@ -3,9 +3,8 @@ ghost use Rattle.std.specs.Prelude.{◌≡◌, ◌<◌, ◌+◌, ◌*◌, ◌≤
 
 use crate::query::{OF_A_AND_B, add_row, check_rows, query_of};
 use crate::servers::{form_list, page_at};
-use bgp_core::Query;
 use federation::Federation;
-use request_plan::{Answered, Ask, BlockSize, Evaluates, FormList};
+use request_plan::{Answered, Ask, BlockSize, Evaluates};
 use std::alloc::Global;
 use std::process::Abort;
 use std::test::Fail;
@@ -172,19 +171,14 @@ fn run(
     Ok(pages)
 }
 
-/// Runs a query over the servers of these forms to its end, and says for how many pages it asked.
-fn pages_over(
-    alloc: Global,
-    query: &Query,
-    forms: FormList,
-    window: u32,
-    order: Order,
-    rows: &mut Vec<String>,
-) -> Result<usize, Fail>
+/// The query over these servers, with so many pages out at once.
+fn begin(alloc: Global, servers: &str, window: u32) -> Result<Federation, Fail>
     requires { 1 ≤ window }
+    ensures { IfOk result (λ federation. federation.given ≡ 0) }
 {
-    let mut federation = Federation::begin(alloc, query, forms, window, BlockSize::one())?;
-    run(alloc, &mut federation, order, rows)
+    let query = query_of(alloc)?;
+    let forms = form_list(alloc, servers)?;
+    Ok(Federation::begin(alloc, &query, forms, window, BlockSize::one())?)
 }
 
 /// Runs the query over these servers to its end, and says for how many pages it asked.
@@ -198,9 +192,8 @@ fn pages_of(
     if window == 0 {
         return Err(Fail::new("no window"));
     }
-    let query = query_of(alloc)?;
-    let forms = form_list(alloc, servers)?;
-    pages_over(alloc, &query, forms, window, order, rows)
+    let mut federation = begin(alloc, servers, window)?;
+    run(alloc, &mut federation, order, rows)
 }
 
 /// A query over these servers, which asks for so many pages and gives these rows.
@@ -315,34 +308,14 @@ fn servers_together_are_asked_for_so_many_pages_and_give_these_rows(
     Ok(())
 }
 
-/// The query over these servers, with so many pages out at once.
-fn begin(alloc: Global, servers: &str, window: u32) -> Result<Federation, Fail>
-    requires { 1 ≤ window }
-    ensures { IfOk result (λ federation. federation.given ≡ 0) }
-{
-    let query = query_of(alloc)?;
-    let forms = form_list(alloc, servers)?;
-    Ok(Federation::begin(alloc, &query, forms, window, BlockSize::one())?)
-}
-
-fn is_taken<R: Abort>(
-    rt: &R,
-    alloc: Global,
-    federation: &mut Federation,
-    ask: &Ask,
-) -> Result<(), Fail> {
-    let page = page_at(alloc, &ask.address)?;
-    assert!(rt; federation.answer(alloc, ask.ticket, page)? == Answered::Taken);
-    Ok(())
-}
-
 fn take_first<R: Abort>(rt: &R, alloc: Global, federation: &mut Federation) -> Result<(), Fail>
     requires { federation.old.given ≡ 0 }
 {
     let Some(ask) = federation.next_ask(alloc)? else {
         return Err(Fail::new("nothing to ask for"));
     };
-    is_taken(rt, alloc, federation, &ask)
+    assert!(rt; answer_once(alloc, federation, &ask)? == Answered::Taken);
+    Ok(())
 }
 
 #[test]

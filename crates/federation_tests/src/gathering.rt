@@ -49,20 +49,15 @@ fn push_next(next: Option<WebAddress>, nexts: &mut Vec<WebAddress>) -> Result<()
     }
 }
 
-fn add_given(alloc: Global, given: Given, gathered: &mut Gathered) -> Result<(), Fail> {
+fn add_page(alloc: Global, address: &WebAddress, gathered: &mut Gathered) -> Result<(), Fail> {
     let Given {
         triples,
         count,
         next,
-    } = given;
+    } = given_at(alloc, address)?;
     gathered.count = gathered.count.saturating_add(u128::from(count));
     push_next(next, &mut gathered.nexts)?;
     Ok(add_triples(alloc, triples.as_slice(), gathered)?)
-}
-
-fn add_page(alloc: Global, address: &WebAddress, gathered: &mut Gathered) -> Result<(), Fail> {
-    let given = given_at(alloc, address)?;
-    add_given(alloc, given, gathered)
 }
 
 fn add_pages(alloc: Global, addresses: &[WebAddress], gathered: &mut Gathered) -> Result<(), Fail> {
@@ -95,7 +90,9 @@ fn see_taken(
 /// Gathers the pages of a round.
 fn gather(alloc: Global, round: Round, gathered: &mut Gathered) -> Result<(), Fail> {
     let (first, others, taken) = round.into_parts();
-    see_taken(alloc, &taken, &mut gathered.seen)?;
+    let seen = see_taken(alloc, &taken, &mut gathered.seen);
+    drop(taken);
+    seen?;
     add_page(alloc, &first, gathered)?;
     add_pages(alloc, others.as_slice(), gathered)
 }
@@ -125,18 +122,14 @@ fn page_of(alloc: Global, gathered: Gathered) -> Result<JointPage, Fail> {
     })
 }
 
-fn nothing(alloc: Global) -> Gathered {
-    Gathered {
+/// The page of a round.
+pub fn joint_page(alloc: Global, round: Round) -> Result<JointPage, Fail> {
+    let mut gathered = Gathered {
         seen: TripleSet::new(alloc),
         triples: Vec::new(alloc),
         count: 0,
         nexts: Vec::new(alloc),
-    }
-}
-
-/// The page of a round.
-pub fn joint_page(alloc: Global, round: Round) -> Result<JointPage, Fail> {
-    let mut gathered = nothing(alloc);
+    };
     gather(alloc, round, &mut gathered)?;
     page_of(alloc, gathered)
 }

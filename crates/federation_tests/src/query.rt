@@ -18,27 +18,22 @@ pub fn query_of(alloc: Global) -> Result<Query, Fail> {
     Ok(parse(alloc, QUERY.as_bytes())?)
 }
 
-/// Adds the term of a name in canonical form, or `-`.
+/// Adds the term of a name in canonical form, or `-`, with a space behind it.
 fn add_term(row: &Row, name: u32, bytes: &mut Vec<u8>) -> Result<(), OutOfMemory> {
     match row.term(name) {
-        Some(term) => canonical(term, bytes),
-        None => Ok(bytes.push(b'-')?),
+        Some(term) => canonical(term, bytes)?,
+        None => bytes.push(b'-')?,
     }
+    Ok(bytes.push(b' ')?)
 }
 
-/// The three terms of a row, with a space behind each.
-fn bytes_of(alloc: Global, row: &Row) -> Result<Vec<u8>, OutOfMemory> {
+/// The three terms of a row as text, with a space behind each.
+fn line(alloc: Global, row: &Row) -> Result<String, Fail> {
     let mut bytes = Vec::new(alloc);
     for name in 0..3u32 {
         add_term(row, name, &mut bytes)?;
-        bytes.push(b' ')?;
     }
-    Ok(bytes)
-}
-
-/// The three terms of a row as text.
-fn line(alloc: Global, row: &Row) -> Result<String, Fail> {
-    Ok(String::from_utf8(bytes_of(alloc, row)?)?)
+    Ok(String::from_utf8(bytes)?)
 }
 
 /// Adds the line of a row, if there is one, and says whether there was one.
@@ -50,16 +45,13 @@ pub fn add_row(alloc: Global, row: Option<Row>, rows: &mut Vec<String>) -> Resul
     Ok(true)
 }
 
-fn check_lines(lines: &str, wanted: &str) -> Result<(), Fail> {
-    if lines == wanted {
-        return Ok(());
-    }
-    Err(Fail::new(format_args!("wanted {wanted}, got {lines}")))
-}
-
 /// Fails where the rows, in ascending order, are not these lines.
 pub fn check_rows(alloc: Global, rows: &mut Vec<String>, wanted: &str) -> Result<(), Fail> {
     rows.sort()?;
     let lines = rows.as_slice().join(alloc, "\n")?;
-    check_lines(lines.as_str(), wanted)
+    if lines.as_str() == wanted {
+        Ok(())
+    } else {
+        Err(Fail::new(format_args!("wanted {wanted}, got {lines}")))
+    }
 }

@@ -4,9 +4,8 @@ ghost use Rattle.std.specs.Prelude.{◌≡◌, ◌<◌, ◌+◌, ◌≤◌, ◌^
 use crate::gathering::joint_page;
 use crate::query::{OF_A_AND_B, add_row, check_rows, query_of};
 use crate::servers::form_list;
-use bgp_core::Query;
 use join_core::RoundJoin;
-use request_plan::{Answered, FormList, RoundAsk};
+use request_plan::{Answered, RoundAsk};
 use std::alloc::Global;
 use std::test::Fail;
 
@@ -81,22 +80,12 @@ fn run(alloc: Global, join: &mut RoundJoin, rows: &mut Vec<String>) -> Result<u3
     Ok(rounds)
 }
 
-/// How many rounds a join over the servers of these forms asks for, with a window of two.
-fn rounds_over(
-    alloc: Global,
-    query: &Query,
-    forms: FormList,
-    rows: &mut Vec<String>,
-) -> Result<u32, Fail> {
-    let mut join = RoundJoin::new(alloc, query, forms, 2)?;
-    run(alloc, &mut join, rows)
-}
-
-/// How many rounds a join of the query over these servers asks for.
+/// How many rounds a join of the query over these servers asks for, with a window of two.
 fn rounds_of(alloc: Global, servers: &str, rows: &mut Vec<String>) -> Result<u32, Fail> {
     let query = query_of(alloc)?;
     let forms = form_list(alloc, servers)?;
-    rounds_over(alloc, &query, forms, rows)
+    let mut join = RoundJoin::new(alloc, &query, forms, 2)?;
+    run(alloc, &mut join, rows)
 }
 
 /// A join over these servers, which asks for so many rounds and gives these rows.

@@ -9,7 +9,7 @@ use request_plan::FormList;
 use std::alloc::Global;
 use std::test::Fail;
 use template_fill::{Form, Template, WebAddress};
-use text_base::{OutOfMemory, Text};
+use text_base::{Text, all_three};
 
 /// A page: its address, its triples as N-Quads, how many the fragment has, and the address of the next.
 struct Entry {
@@ -154,21 +154,13 @@ fn template_of(server: char) -> &'static str {
     }
 }
 
-/// The names of the three places.
-fn names(alloc: Global) -> Result<(Text, Text, Text), OutOfMemory> {
-    let (Ok(subject), Ok(predicate), Ok(object)) = (
+/// The form of a server.
+fn form_of(alloc: Global, server: char) -> Result<Form, Fail> {
+    let (subject, predicate, object) = all_three(
         Text::copy(alloc, "s"),
         Text::copy(alloc, "p"),
         Text::copy(alloc, "o"),
-    ) else {
-        return Err(OutOfMemory);
-    };
-    Ok((subject, predicate, object))
-}
-
-/// The form of a server.
-fn form_of(alloc: Global, server: char) -> Result<Form, Fail> {
-    let (subject, predicate, object) = names(alloc)?;
+    )?;
     match Template::read(alloc, template_of(server)) {
         Ok(template) => Ok(Form {
             template,
@@ -216,25 +208,19 @@ pub fn given_at(alloc: Global, address: &WebAddress) -> Result<Given, Fail> {
     })
 }
 
-/// The page with this form on which a server gives so much.
-fn page_of(given: Given, form: Form) -> Page {
+/// The page at an address.
+pub fn page_at(alloc: Global, address: &WebAddress) -> Result<Page, Fail> {
+    let form = form_of(alloc, 'c')?;
     let Given {
         triples,
         count,
         next,
-    } = given;
-    Page {
+    } = given_at(alloc, address)?;
+    Ok(Page {
         triples,
         count,
         next,
         form,
         version: None,
-    }
-}
-
-/// The page at an address.
-pub fn page_at(alloc: Global, address: &WebAddress) -> Result<Page, Fail> {
-    let form = form_of(alloc, 'c')?;
-    let given = given_at(alloc, address)?;
-    Ok(page_of(given, form))
+    })
 }
