@@ -4,7 +4,7 @@
 
 use process_runs::report;
 use std::process::ExitCode;
-use tpf_process::{run_process, words_of};
+use tpf_cli::{run_process, words_of};
 
 fn main(rt: HostRuntime) -> ExitCode {
     match words_of(&rt) {

@@ -17,3 +17,4 @@ pub mod ValidBlocks
 pub mod GroupPlans
 pub mod GroupLooping
 pub mod GroupFiles
+pub mod Asking

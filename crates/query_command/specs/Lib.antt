@@ -8,3 +8,4 @@ pub mod Limits
 pub mod Commands
 pub mod Groups
 pub mod Over
+pub mod Servers

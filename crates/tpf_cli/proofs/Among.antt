@@ -29,7 +29,7 @@ use Rattle.query_command.specs.Loops.{LocalView}
 use Rattle.query_command.specs.Plans.{plan_of, offer_of, MayEnd, MayEndBy, EndsGenerated}
 use Rattle.serve_command.specs.declared.fault.ServiceFault.{ServiceFault}
 use Rattle.serve_command.specs.declared.fault.ServiceFault.TheVariants as services
-use Rattle.federate_command.specs.Commands.{ServersAsked}
+use Rattle.query_command.specs.Servers.{ServersAsked}
 use Rattle.command_words.specs.Commands.{Command, Federated, local, query, federate, serve, make}
 use Rattle.tpf_cli.specs.Endings as ends
 use Rattle.tpf_cli.specs.Endings.{EndOfRun, data_status, query_status, client_status, fault_status, answer_status, service_status, made_status, counted_status, Says}

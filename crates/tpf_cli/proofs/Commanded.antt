@@ -14,7 +14,7 @@ use Rattle.command_words.specs.declared.command.ClientWords.{ClientWords}
 use Rattle.command_words.specs.declared.command.LocalWords.{LocalWords}
 use Rattle.command_words.specs.CommandViews.{command_view}
 use Rattle.command_words.specs.declared.command.Command as declared_command
-use Rattle.federate_command.specs.Commands.{ServersAsked}
+use Rattle.query_command.specs.Servers.{ServersAsked}
 use Rattle.command_words.specs.Commands.{Command, Federated, local, query, federate}
 use Rattle.tpf_cli.specs.declared.top.Inside.TheVariants.{Unused}
 use Rattle.tpf_cli.specs.Endings.{usage, no_words, answered}

@@ -9,7 +9,7 @@ use Rattle.query_command.specs.declared.fault.AnswerFault.{AnswerFault}
 use Rattle.query_command.specs.Groups.{FileAsked, ServerAsked}
 use Rattle.serve_command.specs.declared.fault.ServiceFault.{ServiceFault}
 use Rattle.serve_command.specs.Services.{ServesFile}
-use Rattle.federate_command.specs.Commands.{ServersAsked}
+use Rattle.query_command.specs.Servers.{ServersAsked}
 use Rattle.command_words.specs.declared.command.ClientWords.{ClientWords}
 use Rattle.command_words.specs.declared.limits.TheConstants.{MOST_BUDGET}
 use Rattle.command_words.specs.Commands.{Command, Federated, local, query, federate, serve, make}

@@ -33,7 +33,7 @@ use Rattle.serve_command.specs.declared.fault.ServiceFault.{ServiceFault}
 use Rattle.serve_command.specs.declared.fault.ServiceFault.TheVariants as services
 use Rattle.serve_command.specs.Services.{ServesFile}
 use Rattle.command_words.specs.declared.command.ClientWords.{ClientWords}
-use Rattle.federate_command.specs.Commands.{FitsServers, ServersAsked}
+use Rattle.query_command.specs.Servers.{FitsServers, ServersAsked}
 use Rattle.command_words.specs.Commands.{Command, Federated, local, query, federate, serve, make}
 use Rattle.tpf_cli.specs.Endings.{EndOfRun, answered, data_status, fault_status, answer_status, service_status, made_status, counted_status, Says}
 use Rattle.tpf_cli.specs.Ranges.{IsInRange, IsTyped}

@@ -35,7 +35,7 @@ use Rattle.query_command.specs.declared.generated_query.Counts.{Counts}
 use Rattle.query_command.specs.Generated.{usual_options, usual_config}
 use Rattle.query_command.specs.Loops.{LocalView, local_config}
 use Rattle.query_command.specs.Groups.{group_plan_of, group_offer_of, MayEndGroup, FileAsked, ServerAsked, GeneratedAsked, Plain, Groups}
-use Rattle.federate_command.specs.Commands.{ServersAsked}
+use Rattle.query_command.specs.Servers.{ServersAsked}
 use Rattle.command_words.specs.Commands.{Command, Federated, local, query, federate, serve, make}
 use Rattle.tpf_cli.specs.Endings as ends
 use Rattle.tpf_cli.specs.Endings.{EndOfRun, data_status, query_status, client_status, fault_status, answer_status, counted_status, Says}

@@ -29,7 +29,7 @@ use Rattle.query_command.specs.Generated.{usual_options, usual_config}
 use Rattle.query_command.specs.Loops.{LocalView, local_config}
 use Rattle.query_command.specs.Groups.{group_plan_of, group_offer_of, GroupIsWithin, FitsGroupOver}
 use Rattle.query_command.specs.Plans.{plan_of, offer_of, CountsRequests, FailsOften, PassesBudget, OfFiles, OfGenerated, PlanIsWithin}
-use Rattle.federate_command.specs.Commands.{FitsServers}
+use Rattle.query_command.specs.Servers.{FitsServers}
 use Rattle.command_words.specs.Commands.{Command, local, query, federate, serve, make}
 use Rattle.tpf_cli.specs.Endings.{EndOfRun, Says}
 use Rattle.tpf_cli.specs.Lines.{counts_text}

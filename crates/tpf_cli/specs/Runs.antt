@@ -31,7 +31,7 @@ use Rattle.serve_command.specs.Services.{ServesFile}
 use Rattle.command_words.specs.declared.command.ClientWords.{ClientWords}
 use Rattle.command_words.specs.declared.command.LocalWords.{LocalWords}
 use Rattle.command_words.specs.declared.command.ServeWords.{ServeWords}
-use Rattle.federate_command.specs.Commands.{ServersAsked}
+use Rattle.query_command.specs.Servers.{ServersAsked}
 use Rattle.command_words.specs.Commands.{Command, local, query, federate, serve, make}
 use Rattle.tpf_cli.specs.declared.top.Inside.{Inside}
 use Rattle.tpf_cli.specs.declared.top.Inside.TheVariants.{Unused, Loop}

@@ -7,7 +7,7 @@ ghost use Rattle.generated_data.specs.declared.limits.TheConstants.{MOST_PERSONS
 ghost use Rattle.data_files.specs.Kept.{KeepsSink};
 ghost use Rattle.query_command.specs.Groups.{FileAsked, ServerAsked};
 ghost use Rattle.federated_query.specs.Servers.{AreApart};
-ghost use Rattle.federate_command.specs.Commands.{ServersAsked};
+ghost use Rattle.query_command.specs.Servers.{ServersAsked};
 ghost use Rattle.serve_command.specs.Services.{ServesFile};
 ghost use Rattle.tpf_cli.specs.Ranges.{IsClient, IsTyped};
 ghost use Rattle.tpf_cli.specs.Runs.{WritesNumbers, CountsFile, asked_of, config_in, options_of, unwritten, wire_inside};
@@ -15,10 +15,11 @@ ghost use Rattle.tpf_cli.specs.Runs.{WritesNumbers, CountsFile, asked_of, config
 use crate::lines::write_sizes;
 use crate::top::Inside;
 use command_words::{ClientWords, FederateWords, LocalWords, QueryWords, ServeWords};
-use federate_command::query_servers;
 use fragment_server::FragmentConnection;
 use loop_wire::LoopWire;
-use query_command::{AnswerFault, Counts, LocalQuery, local, query, query_generated};
+use query_command::{
+    AnswerFault, Counts, LocalQuery, local, query, query_generated, query_servers,
+};
 use serve_command::{Service, ServiceFault, serve};
 use std::alloc::Global;
 use std::mem;

@@ -1,7 +1,7 @@
 use Rattle.std.proofs.Common.{List, subst}
 use Rattle.tpf_base.specs.Addresses.{Address}
 use Rattle.tpf_client.specs.declared.options.Options.{Options}
-use Rattle.federate_command.specs.Commands.{ServersAsked}
+use Rattle.query_command.specs.Servers.{ServersAsked}
 use Rattle.tpf_cli.proofs.Asked.{options_in}
 use Rattle.tpf_cli.proofs.commands.ask_servers.Goals as goal
 

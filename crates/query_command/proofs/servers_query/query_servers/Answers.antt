@@ -2,8 +2,8 @@
 use Rattle.std.proofs.Common.{refl}
 use Rattle.data_files.specs.KeptLaws.{reads_as, sink_none}
 use Rattle.query_command.proofs.Locals.{valid_read}
-use Rattle.federate_command.proofs.Asking.{none_asked, servers_asked, servers_failed}
-use Rattle.federate_command.proofs.servers.query_servers.Goals as goal
+use Rattle.query_command.proofs.Asking.{none_asked, servers_asked, servers_failed}
+use Rattle.query_command.proofs.servers_query.query_servers.Goals as goal
 
 pub returns-in-Err-clause-asks : goal.returns-in-Err-clause-asks
 returns-in-Err-clause-asks g c =

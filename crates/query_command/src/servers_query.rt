@@ -3,11 +3,11 @@ ghost use Rattle.std.specs.Prelude.{◌<◌, length};
 ghost use Rattle.tpf_base.specs.Links.{SameAllowed};
 ghost use Rattle.tpf_client.specs.Bounds.{SuitsCalls};
 ghost use Rattle.federated_query.specs.Servers.{AreApart};
-ghost use Rattle.federate_command.specs.Commands.{ServersAsked};
+ghost use Rattle.query_command.specs.Servers.{ServersAsked};
 
+use crate::{AnswerFault, laws};
 use data_files::read_patterns;
 use federated_query::federate;
-use query_command::{AnswerFault, laws};
 use std::alloc::Global;
 use std::sync::Wait;
 use template_fill::WebAddress;

@@ -24,7 +24,7 @@ use Rattle.query_command.specs.declared.fault.AnswerFault.TheVariants as faults
 use Rattle.query_command.specs.Files.{FailsByFile, KeepsOutput}
 use Rattle.query_command.specs.Limits.{QueriesAreAskable}
 use Rattle.query_command.proofs.Reading as reading
-use Rattle.federate_command.specs.Commands.{AsksTogether, EndsTogether, DecidesPatterns, FitsServers, SucceedsTogether, ServersAsked}
+use Rattle.query_command.specs.Servers.{AsksTogether, EndsTogether, DecidesPatterns, FitsServers, SucceedsTogether, ServersAsked}
 
 -- ---- what the file holds
 

@@ -1,18 +1,5 @@
-//! The program as a process: the words, files, streams and sockets that the system gives it, handed to
-//! the top call.
-//!
-//! A program of its own where it is started without words, and else `tpf`:
-//!
-//! ```rust
-//! fn main(rt: HostRuntime) -> ExitCode {
-//!     match words_of(&rt) {
-//!         Ok(words) if words.len() < 2 => report(&rt),
-//!         _ => run_process(&rt),
-//!     }
-//! }
-//! ```
-#![tactic(auto)]
-
+// The program as a process: the words, files, streams and sockets that the system gives it, handed to the top call.
+use crate::top::{Inside, run};
 use std::alloc::Global;
 use std::env::Env;
 use std::net::Net;
@@ -22,7 +9,6 @@ use std::sync::Wait;
 use std::time::Clock;
 use std::{env, io};
 use tpf_base::write_all;
-use tpf_cli::{Inside, run};
 use wire_real::{DiskShelf, NetWire, StreamSink, Streams};
 
 /// The words with which the process was started (its command-line arguments), its name the first.
