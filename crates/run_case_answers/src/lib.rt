@@ -1,29 +1,16 @@
-//! What the calls of the rows of `run_cases` answer: command lines, and runs of the whole program with files, streams and
-//! wires in memory. The program hands in the runtime, and has nothing but the names of the files:
+//! What the rows of `run_cases` need of the commands and the servers below the program: the command that words are, in one line,
+//! and runs over wires in one process, to one server or to several.
 //!
 //! ```rust
-//! run(
-//!     &rt,
-//!     &Program { rt: &rt },
-//!     "names.json",
-//!     &[
-//!         "commands.jsonl",
-//!         "runs.jsonl",
-//!         "faults.jsonl",
-//!         "wires.jsonl",
-//!         "servers.jsonl",
-//!         "rows.jsonl",
-//!         "blocks.jsonl",
-//!         "group_examples.jsonl",
-//!         "groups.jsonl",
-//!         "group_faults.jsonl",
-//!     ],
-//! )
+//! match left {
+//!     Inside::Loop(wire) => Ok(Some(sent_over(alloc, wire)?)),
+//!     Inside::Unused => Ok(None),
+//! }
 //! ```
 #![tactic(auto)]
 
-mod answers;
 mod commands;
 mod loops;
 
-pub use answers::Program;
+pub use commands::command;
+pub use loops::{Looped, Together, sent_over};

@@ -1,9 +1,10 @@
-//! Cases of the whole program: command lines, and runs with files, streams and wires in memory. The rows stand in `data/`,
-//! and `run_case_answers` has what their calls answer.
+//! Cases of the whole program: command lines, and runs with files, streams and wires in memory. The rows stand in `data/`.
 #![tactic(auto)]
 
+mod answers;
+
+use answers::Program;
 use case_rows::run;
-use run_case_answers::Program;
 use std::process::ExitCode;
 
 fn main(rt: HostRuntime) -> ExitCode {

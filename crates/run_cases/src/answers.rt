@@ -1,9 +1,8 @@
 // The program, whose runs and words are the cases.
 ghost use Rattle.std.specs.Prelude.{◌≡◌};
 
-use crate::commands::command;
-use crate::loops::{Looped, Together, sent_over};
 use case_rows::{Answers, Case, CaseFault};
+use run_case_answers::{Looped, Together, command, sent_over};
 use run_case_rows::{
     Outcome, Runs, Scripted, alone, changing, each_byte, each_write, fronts, shown_over, traffic,
 };
