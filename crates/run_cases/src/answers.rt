@@ -1,79 +1,35 @@
-// The program, whose runs and words are the cases.
-ghost use Rattle.std.specs.Prelude.{◌≡◌};
+// Answers to queries, as they are printed.
 
-use case_rows::{Answers, Case, CaseFault};
-use run_case_answers::{Looped, Together, command, sent_over};
-use run_case_rows::{
-    Outcome, Runs, Scripted, alone, changing, each_byte, each_write, fronts, shown_over, traffic,
-};
-use std::alloc::Global;
-use std::sync::Wait;
-use tpf_base::{Accept, Dial, Shelf};
-use tpf_cli::{Inside, run};
+use std::{io, str};
 
-/// The program over this runtime, which may wait. It answers the rows.
-#[derive(Drop)]
-pub struct Program<'a, R: Wait> {
-    pub rt: &'a R,
-}
-
-/// The run of words over this shelf and this wire, with its outcome and the wire that it leaves inside. It ends with
-/// this status.
-fn status_of<R: Wait, F: Shelf, W: Dial + Accept>(
-    rt: &R,
-    alloc: Global,
-    words: &[String],
-    shelf: &mut F,
-    wire: &mut W,
-    outcome: &mut Outcome,
-    left: &mut Inside,
-) -> u8
-    requires { left.old ≡ Inside.Unused }
-{
-    let (out, err) = (&mut outcome.out, &mut outcome.err);
-    run(rt, alloc, words, shelf, wire, out, err, left)
-}
-
-/// What was sent on the wire that was left inside, if one was.
-fn sent_inside(alloc: Global, left: &Inside) -> Result<Option<String>, CaseFault> {
-    match left {
-        Inside::Loop(wire) => Ok(Some(sent_over(alloc, wire)?)),
-        Inside::Unused => Ok(None),
+/// Prints rows, each on a line of its own.
+fn show_each<R: Print>(rt: &R, rows: &[&str]) -> io::Result<()> {
+    for row in rows {
+        println!(rt; "{row}")?;
     }
+    Ok(())
 }
 
-impl<R: Wait> Runs for Program<'_, R> {
-    fn run<F: Shelf, W: Dial + Accept>(
-        &self,
-        alloc: Global,
-        words: &[String],
-        shelf: &mut F,
-        wire: &mut W,
-        outcome: &mut Outcome,
-    ) -> Result<(), CaseFault> {
-        let mut left = Box::new(alloc, Inside::Unused)?;
-        let status = status_of(self.rt, alloc, words, shelf, wire, outcome, &mut left);
-        outcome.status = status;
-        outcome.sent = sent_inside(alloc, &left)?;
-        Ok(())
-    }
+/// Prints what stands between the braces of rows, each on a line of its own, sorted, since a query says
+/// nothing of the order of its rows.
+fn show_rows<R: Print + AllocGlobal>(rt: &R, rows: &str) -> io::Result<()> {
+    let mut sorted: Vec<&str> = rows.split("},{").collect(rt.alloc())?;
+    sorted.sort_unstable();
+    show_each(rt, &sorted)
 }
 
-/// The calls that rows name.
-impl<R: Wait> Answers for Program<'_, R> {
-    fn answer(&self, alloc: Global, call: &str, case: &mut Case<'_>) -> Result<String, CaseFault> {
-        match call {
-            "command" => command(alloc, case),
-            "run" => alone(self, alloc, case),
-            "traffic" => traffic(self, alloc, case),
-            "scripted" => shown_over(&Scripted, self, alloc, case),
-            "changing" => changing(self, alloc, case),
-            "looped" => shown_over(&Looped, self, alloc, case),
-            "together" => shown_over(&Together, self, alloc, case),
-            "fronts" => fronts(self, alloc, case),
-            "each_byte" => each_byte(self, alloc, case),
-            "each_write" => each_write(self, alloc, case),
-            _ => Err(CaseFault::Row),
-        }
-    }
+/// Prints an answer with rows, each row on a line of its own.
+pub fn show<R: Print + AllocGlobal>(rt: &R, answer: &[u8]) -> io::Result<()> {
+    let Ok(text) = str::from_utf8(answer) else {
+        return Err(io::Error::other("the answer is no text"));
+    };
+    let Some((head, rest)) = text.split_once("[{") else {
+        return Err(io::Error::other("the answer has no row"));
+    };
+    let Some((rows, end)) = rest.rsplit_once("}]") else {
+        return Err(io::Error::other("the answer breaks off"));
+    };
+    println!(rt; "{head}")?;
+    show_rows(rt, rows)?;
+    print!(rt; "{end}")
 }

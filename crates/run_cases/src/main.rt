@@ -1,28 +1,29 @@
-//! Cases of the whole program: command lines, and runs with files, streams and wires in memory. The rows stand in `data/`.
+//! Cases of the whole program, which this is itself where it is started with words. Without a word it answers the rows of `data/`,
+//! command lines, and runs with files, streams and wires in memory; and then it starts itself as servers and as their clients, and
+//! prints what is seen of them over real sockets, from one process to another.
 #![tactic(auto)]
 
 mod answers;
+mod blocks;
+mod edge;
+mod files;
+mod processes;
+mod programs;
+mod rows;
+mod served;
+mod together;
 
-use answers::Program;
-use case_rows::run;
+use processes::report;
+use rows::answer_rows;
 use std::process::ExitCode;
+use tpf_cli::{run_process, words_of};
 
 fn main(rt: HostRuntime) -> ExitCode {
-    run(
-        &rt,
-        &Program { rt: &rt },
-        "names.json",
-        &[
-            "commands.jsonl",
-            "runs.jsonl",
-            "faults.jsonl",
-            "wires.jsonl",
-            "servers.jsonl",
-            "rows.jsonl",
-            "blocks.jsonl",
-            "group_examples.jsonl",
-            "groups.jsonl",
-            "group_faults.jsonl",
-        ],
-    )
+    match words_of(&rt) {
+        Ok(words) if words.len() < 2 => {
+            let _ = answer_rows(&rt);
+            report(&rt)
+        }
+        _ => run_process(&rt),
+    }
 }
