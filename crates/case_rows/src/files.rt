@@ -7,7 +7,6 @@ use crate::told::told_of;
 use crate::{Case, CaseFault};
 use serde_json::Value;
 use std::alloc::{AllocError, Global};
-use std::process::ExitCode;
 use std::rt::Files;
 use std::{fs, io};
 
@@ -122,19 +121,19 @@ fn run_files<R: Files + Print + AllocGlobal, A: Answers>(
 }
 
 /// Answers the rows of the files, where `names` has the texts with names. Prints each row that differs, with its
-/// file and line, and for each file how many rows it has and how many of them are wrong. Succeeds where none is.
+/// file and line, and for each file how many rows it has and how many of them are wrong. Says whether all files were
+/// read and no row is wrong.
 pub fn run<R: Files + Print + AllocGlobal, A: Answers>(
     rt: &R,
     answers: &A,
     names: &str,
     files: &[&str],
-) -> ExitCode {
+) -> bool {
     match run_files(rt, answers, names, files) {
-        Ok(true) => ExitCode::SUCCESS,
-        Ok(false) => ExitCode::FAILURE,
+        Ok(all_right) => all_right,
         Err(error) => {
             let _ = println!(rt; "{error}");
-            ExitCode::FAILURE
+            false
         }
     }
 }

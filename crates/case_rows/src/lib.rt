@@ -10,10 +10,10 @@
 //!
 //! `call` names what is called, `wanted` is the answer as a text, and `or`, where it stands, another answer that is
 //! as good. The other members are what it is called with; each of them is asked for, or the row is a fault. Texts are
-//! written as [`Case::bytes`] says. A program of cases has one type that answers the calls, and hands it to [`run`]:
+//! written as [`Case::bytes`] says. A library of cases has one type that answers the calls, and hands it to [`run`]:
 //!
 //! ```rust
-//! run(&rt, &Texts, "names.json", &["terms.jsonl", "nquads.jsonl"])
+//! run(rt, &Texts, "text_names.json", &["terms.jsonl", "nquads.jsonl"])
 //! ```
 #![tactic(auto)]
 

@@ -21,8 +21,13 @@ use tpf_cli::{run_process, words_of};
 fn main(rt: HostRuntime) -> ExitCode {
     match words_of(&rt) {
         Ok(words) if words.len() < 2 => {
-            let _ = answer_rows(&rt);
-            report(&rt)
+            let all_right = answer_rows(&rt);
+            let reported = report(&rt);
+            if all_right {
+                reported
+            } else {
+                ExitCode::FAILURE
+            }
         }
         _ => run_process(&rt),
     }

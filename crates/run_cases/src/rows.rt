@@ -7,7 +7,6 @@ use run_case_rows::{
     Outcome, Runs, Scripted, alone, changing, each_byte, each_write, fronts, shown_over, traffic,
 };
 use std::alloc::Global;
-use std::process::ExitCode;
 use std::rt::Files;
 use std::sync::Wait;
 use tpf_base::{Accept, Dial, Shelf};
@@ -80,8 +79,8 @@ impl<R: Wait> Answers for Program<'_, R> {
     }
 }
 
-/// Answers the rows of all files, and prints how many are wrong.
-pub fn answer_rows<R: Files + Print + AllocGlobal + Wait>(rt: &R) -> ExitCode {
+/// Answers the rows, prints those that are wrong and how many each file has, and says whether none is wrong.
+pub fn answer_rows<R: Files + Print + AllocGlobal + Wait>(rt: &R) -> bool {
     run_rows(
         rt,
         &Program { rt },

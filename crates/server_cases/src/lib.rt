@@ -1,5 +1,11 @@
 //! Cases of `http_wire`, requests and replies over any cuts and what is written, and of `tpf_server`, conversations over one
-//! connection. The rows stand in `data/`.
+//! connection.
+//!
+//! The rows stand in the program `library_cases`, which has them answered:
+//!
+//! ```rust
+//! let servers = server_cases::answer_rows(&rt);
+//! ```
 #![tactic(auto)]
 
 mod connections;
@@ -10,7 +16,7 @@ mod servers;
 
 use case_rows::{Answers, Case, CaseFault, run};
 use std::alloc::Global;
-use std::process::ExitCode;
+use std::rt::Files;
 
 /// The calls that rows name.
 struct Http;
@@ -31,11 +37,12 @@ impl Answers for Http {
     }
 }
 
-fn main(rt: HostRuntime) -> ExitCode {
+/// Answers the rows, prints those that are wrong and how many each file has, and says whether none is wrong.
+pub fn answer_rows<R: Files + Print + AllocGlobal>(rt: &R) -> bool {
     run(
-        &rt,
+        rt,
         &Http,
-        "names.json",
+        "server_names.json",
         &[
             "requests.jsonl",
             "replies.jsonl",

@@ -1,5 +1,11 @@
 //! Cases of `template_fill`, `hydra_controls`, `own_controls` and `control_reader`: addresses, templates, explicit forms, and the
-//! metadata of pages as text and read back. The rows stand in `data/`.
+//! metadata of pages as text and read back.
+//!
+//! The rows stand in the program `library_cases`, which has them answered:
+//!
+//! ```rust
+//! let pages = page_cases::answer_rows(&rt);
+//! ```
 #![tactic(auto)]
 
 mod addresses;
@@ -11,7 +17,7 @@ mod templates;
 
 use case_rows::{Answers, Case, CaseFault, run};
 use std::alloc::Global;
-use std::process::ExitCode;
+use std::rt::Files;
 
 /// The calls that rows name.
 struct Web;
@@ -49,11 +55,12 @@ impl Answers for Web {
     }
 }
 
-fn main(rt: HostRuntime) -> ExitCode {
+/// Answers the rows, prints those that are wrong and how many each file has, and says whether none is wrong.
+pub fn answer_rows<R: Files + Print + AllocGlobal>(rt: &R) -> bool {
     run(
-        &rt,
+        rt,
         &Web,
-        "names.json",
+        "page_names.json",
         &["addresses.jsonl", "controls.jsonl", "pages.jsonl"],
     )
 }

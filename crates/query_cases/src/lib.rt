@@ -1,5 +1,11 @@
 //! Cases of queries: their tokens, words, grammar, patterns and groups, the solutions of a basic graph pattern, and how the
-//! rows of blocks are put together: Join, LeftJoin, Union and Distinct. The rows stand in `data/`.
+//! rows of blocks are put together: Join, LeftJoin, Union and Distinct.
+//!
+//! The rows stand in the program `library_cases`, which has them answered:
+//!
+//! ```rust
+//! let queries = query_cases::answer_rows(&rt);
+//! ```
 #![tactic(auto)]
 
 mod answers;
@@ -11,7 +17,7 @@ mod words;
 
 use case_rows::{Answers, Case, CaseFault, run};
 use std::alloc::Global;
-use std::process::ExitCode;
+use std::rt::Files;
 
 /// The calls that rows name.
 struct Calls;
@@ -35,11 +41,12 @@ impl Answers for Calls {
     }
 }
 
-fn main(rt: HostRuntime) -> ExitCode {
+/// Answers the rows, prints those that are wrong and how many each file has, and says whether none is wrong.
+pub fn answer_rows<R: Files + Print + AllocGlobal>(rt: &R) -> bool {
     run(
-        &rt,
+        rt,
         &Calls,
-        "names.json",
+        "query_names.json",
         &[
             "words.jsonl",
             "queries.jsonl",

@@ -1,4 +1,10 @@
-//! Cases of `rdf_terms` and `nquads_text`: terms, their order, and N-Quads text. The rows stand in `data/`.
+//! Cases of `rdf_terms` and `nquads_text`: terms, their order, and N-Quads text.
+//!
+//! The rows stand in the program `library_cases`, which has them answered:
+//!
+//! ```rust
+//! let texts = text_cases::answer_rows(&rt);
+//! ```
 #![tactic(auto)]
 
 mod orders;
@@ -7,7 +13,7 @@ mod terms;
 
 use case_rows::{Answers, Case, CaseFault, run};
 use std::alloc::Global;
-use std::process::ExitCode;
+use std::rt::Files;
 
 /// The calls that rows name.
 struct Texts;
@@ -30,6 +36,12 @@ impl Answers for Texts {
     }
 }
 
-fn main(rt: HostRuntime) -> ExitCode {
-    run(&rt, &Texts, "names.json", &["terms.jsonl", "nquads.jsonl"])
+/// Answers the rows, prints those that are wrong and how many each file has, and says whether none is wrong.
+pub fn answer_rows<R: Files + Print + AllocGlobal>(rt: &R) -> bool {
+    run(
+        rt,
+        &Texts,
+        "text_names.json",
+        &["terms.jsonl", "nquads.jsonl"],
+    )
 }

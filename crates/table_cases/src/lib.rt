@@ -1,4 +1,10 @@
-//! Cases of the table of triples, of fragments and their pages, and of generated data. The rows stand in `data/`.
+//! Cases of the table of triples, of fragments and their pages, and of generated data.
+//!
+//! The rows stand in the program `library_cases`, which has them answered:
+//!
+//! ```rust
+//! let tables = table_cases::answer_rows(&rt);
+//! ```
 #![tactic(auto)]
 
 mod fragments;
@@ -7,7 +13,7 @@ mod tables;
 
 use case_rows::{Answers, Case, CaseFault, run};
 use std::alloc::Global;
-use std::process::ExitCode;
+use std::rt::Files;
 
 /// The calls that rows name.
 struct Data;
@@ -28,11 +34,12 @@ impl Answers for Data {
     }
 }
 
-fn main(rt: HostRuntime) -> ExitCode {
+/// Answers the rows, prints those that are wrong and how many each file has, and says whether none is wrong.
+pub fn answer_rows<R: Files + Print + AllocGlobal>(rt: &R) -> bool {
     run(
-        &rt,
+        rt,
         &Data,
-        "names.json",
+        "table_names.json",
         &["tables.jsonl", "fragments.jsonl", "generated.jsonl"],
     )
 }

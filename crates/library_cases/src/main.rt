@@ -1,0 +1,18 @@
+//! Cases of the libraries: terms and N-Quads, queries, tables and fragments, addresses and pages, requests, replies and
+//! conversations. The rows stand in `data/`, and what they call in a library each.
+#![tactic(auto)]
+
+use std::process::ExitCode;
+
+fn main(rt: HostRuntime) -> ExitCode {
+    let texts = text_cases::answer_rows(&rt);
+    let queries = query_cases::answer_rows(&rt);
+    let tables = table_cases::answer_rows(&rt);
+    let pages = page_cases::answer_rows(&rt);
+    let servers = server_cases::answer_rows(&rt);
+    if texts && queries && tables && pages && servers {
+        ExitCode::SUCCESS
+    } else {
+        ExitCode::FAILURE
+    }
+}
