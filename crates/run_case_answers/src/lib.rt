@@ -13,4 +13,4 @@ mod commands;
 mod loops;
 
 pub use commands::command;
-pub use loops::{Looped, Together, sent_over};
+pub use loops::{Looped, Together, each_call, sent_over};

@@ -5,7 +5,8 @@ use fragment_server::{FragmentConnection, FragmentServer};
 use hydra_controls::Config;
 use loop_wire::{Behind, LoopWire, Several};
 use run_case_rows::{
-    Failure, Outcome, Over, Runs, Setup, WithDoor, ended_on, failure_of, push_sent,
+    Failure, Numbered, Outcome, Over, Runs, Setup, WithDoor, ended_on, failure_of, failures,
+    push_sent,
 };
 use std::alloc::Global;
 use template_fill::WebAddress;
@@ -50,27 +51,45 @@ fn server_on(
     }
 }
 
-/// `page`, `rows`: the server of the file `d`.
-fn server_of(
-    alloc: Global,
-    case: &mut Case<'_>,
-    setup: &Setup,
-) -> Result<Box<FragmentServer>, CaseFault> {
-    let page = case.number_if("page")?.unwrap_or(USUAL_PAGE);
-    let rows = case.flag("rows")?;
-    let mut shelf = setup.shelf(alloc, Failure::Never)?;
-    server_on(alloc, &mut shelf, "http://localhost/data", page, rows)
+/// A wire in one process to a server: its seed, how many triples a page of the server has, and whether it reads rows.
+#[derive(Clone, Copy)]
+struct Form {
+    seed: u64,
+    page: u64,
+    rows: bool,
 }
 
-/// A wire in one process to a server, with this seed, whose calls fail so.
-fn loop_to(
+/// `page`, `rows`, `seed`: such a wire.
+fn form_of(case: &mut Case<'_>) -> Result<Form, CaseFault> {
+    Ok(Form {
+        seed: case.number_if("seed")?.unwrap_or(0),
+        page: case.number_if("page")?.unwrap_or(USUAL_PAGE),
+        rows: case.flag("rows")?,
+    })
+}
+
+/// The server of the file `d`.
+fn server_of(alloc: Global, setup: &Setup, form: Form) -> Result<Box<FragmentServer>, CaseFault> {
+    let mut shelf = setup.shelf(alloc, Failure::Never)?;
+    server_on(
+        alloc,
+        &mut shelf,
+        "http://localhost/data",
+        form.page,
+        form.rows,
+    )
+}
+
+/// A wire of this form to the server of the file `d`, whose calls fail so.
+fn loop_of(
     alloc: Global,
-    server: Box<FragmentServer>,
-    seed: u64,
+    setup: &Setup,
+    form: Form,
     failure: Failure,
 ) -> Result<Box<WithDoor<LoopWire<FragmentConnection>>>, CaseFault> {
     let failing = failure.failing(alloc)?;
-    let wire = LoopWire::new(alloc, Box::into_inner(server), seed, failing);
+    let server = server_of(alloc, setup, form)?;
+    let wire = LoopWire::new(alloc, Box::into_inner(server), form.seed, failing);
     Ok(Box::new(alloc, WithDoor::new(wire))?)
 }
 
@@ -89,6 +108,18 @@ where
     Ok(outcome)
 }
 
+/// The run over a wire of this form, whose calls fail so.
+fn ended_over<P: Runs>(
+    program: &P,
+    alloc: Global,
+    setup: &Setup,
+    form: Form,
+    failure: Failure,
+) -> Result<Box<Outcome>, CaseFault> {
+    let mut wire = loop_of(alloc, setup, form, failure)?;
+    over_loop(program, alloc, setup, &mut wire)
+}
+
 /// `page`, `rows`, `seed`, `wire_fails`: a wire in one process, with this seed, to a server of the file `d` at
 /// `http://localhost/data` with so many triples a page, which reads rows where the row has `rows`.
 pub struct Looped;
@@ -101,12 +132,35 @@ impl Over for Looped {
         case: &mut Case<'_>,
         setup: &Setup,
     ) -> Result<Box<Outcome>, CaseFault> {
-        let server = server_of(alloc, case, setup)?;
-        let seed = case.number_if("seed")?.unwrap_or(0);
+        let form = form_of(case)?;
         let failure = failure_of(alloc, case, "wire_fails")?;
-        let mut wire = loop_to(alloc, server, seed, failure)?;
-        over_loop(program, alloc, setup, &mut wire)
+        ended_over(program, alloc, setup, form, failure)
     }
+}
+
+/// The runs over a wire of this form, each with the number of the call that fails.
+impl Numbered for Form {
+    fn outcome<P: Runs>(
+        &self,
+        program: &P,
+        alloc: Global,
+        setup: &Setup,
+        number: u64,
+    ) -> Result<Box<Outcome>, CaseFault> {
+        ended_over(program, alloc, setup, *self, Failure::At(number))
+    }
+}
+
+/// `page`, `rows`, `seed`, `calls`, and the members of `failures`: whether `all`, `some` or `none` of so many runs over
+/// such a wire failed, of which the first one's first call fails, the second one's second call, and so on.
+pub fn each_call<P: Runs>(
+    program: &P,
+    alloc: Global,
+    case: &mut Case<'_>,
+) -> Result<String, CaseFault> {
+    let form = form_of(case)?;
+    let calls = case.number("calls")?;
+    failures(&form, program, alloc, case, 1, calls)
 }
 
 /// A shelf with one file, `d`, which holds these bytes.

@@ -105,82 +105,156 @@ pub fn each_write<P: Runs>(
     word_text(alloc, writes_word(writes))
 }
 
-/// Whether a text begins one of these, or is one where it is to be whole.
-fn begins_one(taken: &[u8], texts: &[String], is_whole: bool) -> bool {
+/// Runs that have numbers.
+pub trait Numbered {
+    /// How the run with this number ends.
+    fn outcome<P: Runs>(
+        &self,
+        program: &P,
+        alloc: Global,
+        setup: &Setup,
+        number: u64,
+    ) -> Result<Box<Outcome>, CaseFault>;
+}
+
+/// What runs of which some may fail have to end with.
+#[derive(Drop)]
+struct Endings {
+    /// The texts of which a run that failed wrote one.
+    fronts: Vec<String>,
+    /// The texts of which any other wrote one.
+    texts: Vec<String>,
+    /// The front and the end of the line that any other said.
+    said: Vec<String>,
+}
+
+/// `fronts`, `texts`, `said`: what runs have to end with.
+fn endings_of(alloc: Global, case: &mut Case<'_>) -> Result<Box<Endings>, CaseFault> {
+    let fronts = case.texts(alloc, "fronts")?;
+    let texts = case.texts(alloc, "texts")?;
+    let said = case.texts(alloc, "said")?;
+    let endings = Endings {
+        fronts,
+        texts,
+        said,
+    };
+    Ok(Box::new(alloc, endings)?)
+}
+
+/// Whether these bytes are one of the texts.
+fn is_one(bytes: &[u8], texts: &[String]) -> bool {
     for text in texts {
-        if text.as_bytes().starts_with(taken) && (!is_whole || text.len() == taken.len()) {
+        if text.as_bytes() == bytes {
             return true;
         }
     }
     false
 }
 
-/// Whether a run wrote one of these texts and succeeded, or was failed by a dial behind the front of one.
-fn is_front(outcome: &Outcome, front: &str, texts: &[String]) -> bool {
-    let taken = outcome.out.taken();
-    let is_whole = outcome.status == 0;
-    taken.starts_with(front.as_bytes())
-        && begins_one(taken, texts, is_whole)
-        && (is_whole || outcome.says(5, "exchange: failed\n"))
+/// Whether a line has the front and the end that are said.
+fn is_said(line: &[u8], said: &[String]) -> bool {
+    match said {
+        [front, end] => line.starts_with(front.as_bytes()) && line.ends_with(end.as_bytes()),
+        _ => false,
+    }
 }
 
-/// Whether the run with this seed failed, behind the front of one of these texts.
-fn has_failed<P: Runs>(
+impl Endings {
+    /// Whether a run ended so: it succeeded, or an exchange failed.
+    fn have(&self, outcome: &Outcome) -> bool {
+        let taken = outcome.out.taken();
+        if outcome.status == 0 {
+            return is_one(taken, self.texts.as_slice())
+                && is_said(outcome.err.taken(), self.said.as_slice());
+        }
+        is_one(taken, self.fronts.as_slice()) && outcome.says(5, "exchange: failed\n")
+    }
+}
+
+/// Whether the run with this number failed.
+fn has_failed<N: Numbered, P: Runs>(
+    runs: &N,
     program: &P,
     alloc: Global,
     setup: &Setup,
-    front: &str,
-    texts: &[String],
-    seed: u64,
+    endings: &Endings,
+    number: u64,
 ) -> Result<bool, CaseFault> {
-    let outcome = seeded(program, alloc, setup, seed)?;
-    if !is_front(&outcome, front, texts) {
+    let outcome = runs.outcome(program, alloc, setup, number)?;
+    if !endings.have(&outcome) {
         return Err(CaseFault::Differs);
     }
     Ok(outcome.status != 0)
 }
 
-/// How many of the runs with so many seeds failed, each behind the front of one of these texts.
-fn failed<P: Runs>(
+/// How many of so many runs failed, which have the numbers from the first one on.
+fn failed<N: Numbered, P: Runs>(
+    runs: &N,
     program: &P,
     alloc: Global,
     setup: &Setup,
-    front: &str,
-    texts: &[String],
-    seeds: u64,
+    endings: &Endings,
+    first: u64,
+    count: u64,
 ) -> Result<u64, CaseFault> {
     let mut failed = 0u64;
-    for seed in 0..seeds {
-        if has_failed(program, alloc, setup, front, texts, seed)? {
+    for number in first..first.saturating_add(count) {
+        if has_failed(runs, program, alloc, setup, endings, number)? {
             failed = failed.saturating_add(1);
         }
     }
     Ok(failed)
 }
 
-/// The word for so many runs that failed.
-fn failed_word(failed: u64) -> &'static str {
-    if failed == 0 { "none" } else { "some" }
+/// The word for so many of the runs that failed.
+fn failed_word(failed: u64, runs: u64) -> &'static str {
+    if failed == 0 {
+        "none"
+    } else if failed == runs {
+        "all"
+    } else {
+        "some"
+    }
 }
 
-/// `line`, `data`, `query`, `seeds`, `front`, `texts`: whether `some` or `none` of the runs with these seeds failed,
-/// each behind the front of one of these texts, where the others wrote one of them.
+/// `line`, `data`, `query`, `fronts`, `texts`, `said`: whether `all`, `some` or `none` of so many runs failed, which have
+/// the numbers from the first one on. One that failed did so at an exchange, and wrote one of the `fronts`; any other
+/// wrote one of the `texts`, and a line with the front and the end of `said`.
+pub fn failures<N: Numbered, P: Runs>(
+    runs: &N,
+    program: &P,
+    alloc: Global,
+    case: &mut Case<'_>,
+    first: u64,
+    count: u64,
+) -> Result<String, CaseFault> {
+    let setup = setup_of(program, alloc, case)?;
+    let endings = endings_of(alloc, case)?;
+    let failed = failed(runs, program, alloc, &setup, &endings, first, count)?;
+    word_text(alloc, failed_word(failed, count))
+}
+
+/// The runs with seeds, over a wire that gives no link.
+struct Seeded;
+
+impl Numbered for Seeded {
+    fn outcome<P: Runs>(
+        &self,
+        program: &P,
+        alloc: Global,
+        setup: &Setup,
+        number: u64,
+    ) -> Result<Box<Outcome>, CaseFault> {
+        seeded(program, alloc, setup, number)
+    }
+}
+
+/// `seeds`, and the members of `failures`: whether `all`, `some` or `none` of the runs with so many seeds failed.
 pub fn fronts<P: Runs>(
     program: &P,
     alloc: Global,
     case: &mut Case<'_>,
 ) -> Result<String, CaseFault> {
     let seeds = case.number("seeds")?;
-    let front = case.text(alloc, "front")?;
-    let texts = case.texts(alloc, "texts")?;
-    let setup = setup_of(program, alloc, case)?;
-    let failed = failed(
-        program,
-        alloc,
-        &setup,
-        front.as_str(),
-        texts.as_slice(),
-        seeds,
-    )?;
-    word_text(alloc, failed_word(failed))
+    failures(&Seeded, program, alloc, case, 0, seeds)
 }

@@ -19,7 +19,7 @@ mod setups;
 mod wires;
 
 pub use door::WithDoor;
-pub use faults::{each_byte, each_write, fronts};
+pub use faults::{Numbered, each_byte, each_write, failures, fronts};
 pub use outcomes::{Outcome, Show, show_of};
 pub use program::{Runs, ended_on};
 pub use rows::{alone, traffic};

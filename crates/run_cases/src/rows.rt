@@ -2,7 +2,7 @@
 ghost use Rattle.std.specs.Prelude.{◌≡◌};
 
 use case_rows::{Answers, Case, CaseFault, run as run_rows};
-use run_case_answers::{Looped, Together, command, sent_over};
+use run_case_answers::{Looped, Together, command, each_call, sent_over};
 use run_case_rows::{
     Outcome, Runs, Scripted, alone, changing, each_byte, each_write, fronts, shown_over, traffic,
 };
@@ -72,6 +72,7 @@ impl<R: Wait> Answers for Program<'_, R> {
             "looped" => shown_over(&Looped, self, alloc, case),
             "together" => shown_over(&Together, self, alloc, case),
             "fronts" => fronts(self, alloc, case),
+            "each_call" => each_call(self, alloc, case),
             "each_byte" => each_byte(self, alloc, case),
             "each_write" => each_write(self, alloc, case),
             _ => Err(CaseFault::Row),

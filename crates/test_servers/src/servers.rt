@@ -69,22 +69,12 @@ pub fn config_at(alloc: Global, base: &str, page_size: u64) -> Result<Config, Se
     Config::new(base, page_size).ok_or(ServerFault::Config)
 }
 
-/// A server of N-Quads text at this address, with so many triples a page.
-pub fn server_at(
-    alloc: Global,
-    base: &str,
-    text: &str,
-    page_size: u64,
-) -> Result<Server, ServerFault> {
-    let config = config_at(alloc, base, page_size)?;
+/// A server of N-Quads text at [`BASE`], with so many triples a page.
+pub fn server_of(alloc: Global, text: &str, page_size: u64) -> Result<Server, ServerFault> {
+    let config = config_at(alloc, BASE, page_size)?;
     let table = table_of(alloc, text)?;
     match Server::new(alloc, table, config) {
         Ok(server) => Ok(server),
         Err(_) => Err(ServerFault::Server),
     }
-}
-
-/// A server of N-Quads text at [`BASE`], with so many triples a page.
-pub fn server_of(alloc: Global, text: &str, page_size: u64) -> Result<Server, ServerFault> {
-    server_at(alloc, BASE, text, page_size)
 }
