@@ -17,6 +17,7 @@
 //!         "group_examples.jsonl",
 //!         "groups.jsonl",
 //!         "group_faults.jsonl",
+//!         "group_wires.jsonl",
 //!     ],
 //! )
 //! ```

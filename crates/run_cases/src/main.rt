@@ -22,6 +22,7 @@ fn main(rt: HostRuntime) -> ExitCode {
             "group_examples.jsonl",
             "groups.jsonl",
             "group_faults.jsonl",
+            "group_wires.jsonl",
         ],
     )
 }
