@@ -5,8 +5,8 @@
 //! sink for the text:
 //!
 //! ```rust
-//! let mut out = MemSink::new(alloc, Failing::Never);
-//! let ended = answer(rt, alloc, query, &start, &options, wire, &mut out);
+//! let mut wire: LoopWire<FragmentConnection> = LoopWire::new(alloc, server, asked.seed, failing);
+//! let ended = answer(rt, alloc, query, start, options, &mut wire, out);
 //! ```
 #![tactic(auto)]
 

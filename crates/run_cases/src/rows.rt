@@ -97,6 +97,7 @@ pub fn answer_rows<R: Files + Print + AllocGlobal + Wait>(rt: &R) -> bool {
             "group_examples.jsonl",
             "groups.jsonl",
             "group_faults.jsonl",
+            "group_wires.jsonl",
         ],
     )
 }
