@@ -4,8 +4,10 @@
 //! A query, the address of any fragment of each server, no two of one authority, a wire to dial them and a sink for the text:
 //!
 //! ```rust
-//! let mut out = MemSink::new(alloc, Failing::Never);
-//! let ended = federate(rt, alloc, &asked, starts, options, wire, &mut out);
+//! match federate(rt, alloc, &query, starts, options, wire, out) {
+//!     Ok(report) => Ok(report),
+//!     Err(fault) => Err(AnswerFault::Client(fault)),
+//! }
 //! ```
 #![tactic(auto)]
 

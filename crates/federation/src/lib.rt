@@ -8,8 +8,7 @@
 //! let Some(ask) = federation.next_ask(alloc)? else {
 //!     return Err(Fail::new("nothing to ask for"));
 //! };
-//! let page = page_at(alloc, &ask.address)?;
-//! assert_eq!(rt; federation.answer(alloc, ask.ticket, page)?, Answered::Taken);
+//! assert!(rt; answer_once(alloc, federation, &ask)? == Answered::Taken);
 //! ```
 #![tactic(auto)]
 
