@@ -3,17 +3,9 @@
 //! prints what is seen of them over real sockets, from one process to another.
 #![tactic(auto)]
 
-mod answers;
-mod blocks;
-mod edge;
-mod files;
-mod processes;
-mod programs;
 mod rows;
-mod served;
-mod together;
 
-use processes::report;
+use process_runs::report;
 use rows::answer_rows;
 use std::process::ExitCode;
 use tpf_cli::{run_process, words_of};

@@ -1,7 +1,7 @@
 // What strangers do to a server's sockets: one that does not read, one that resets its connection, one that is
 // refused; and a host at which nobody listens.
 
-use crate::processes::tell;
+use crate::cases::tell;
 use crate::programs::{address_at, free_port, outcome};
 use crate::served::{Served, Talk, serve_and_ask};
 use std::fmt::Write as _;

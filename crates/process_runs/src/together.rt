@@ -1,7 +1,7 @@
 // One query over two servers.
 
+use crate::cases::ask_with;
 use crate::edge::{nobody, run_to_end};
-use crate::processes::ask_with;
 use crate::programs::serve;
 use crate::served::finish;
 use std::io;

@@ -1,8 +1,8 @@
 // Servers, what is asked of them, and how they end.
 
 use crate::blocks::ask_rows_and_blocks;
+use crate::cases::{ask, ask_across_a_reload, ask_around_a_reload, make_persons, tell};
 use crate::edge::{ask_late_and_together, ask_once, serve_twice, speak_on_three};
-use crate::processes::{ask, ask_across_a_reload, ask_around_a_reload, make_persons, tell};
 use crate::programs::{Server, serve};
 use crate::together::ask_beside;
 use std::net::Net;

@@ -1,7 +1,7 @@
 // One query of a server that reads rows.
 
+use crate::cases::ask_with;
 use crate::edge::ask_once;
-use crate::processes::ask_with;
 use std::fmt::Write as _;
 use std::io;
 use std::net::Net;
