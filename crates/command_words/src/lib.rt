@@ -1,16 +1,13 @@
 //! The words of the command line of `tpf`: which command they are, with its options.
 //!
-//! Here `words_of` cuts a line at each `|`, so that the words are `tpf`, `make`, `3` and
-//! `--run=people.rq`; the words of the second line are no command, since an option stands there twice:
+//! The words with the program's name first are a command, which is done, or none, and then the usage is told:
 //!
 //! ```rust
-//! let words = words_of(rt.alloc(), "tpf|make|3|--run=people.rq")?;
-//! let Some(Command::Make { count, run }) = command_of(rt.alloc(), &words)? else {
-//!     return Err(Fail::new("no make"));
-//! };
-//! assert!(rt; count == 3 && run.unwrap_or("") == "people.rq");
-//! let twice = words_of(rt.alloc(), "tpf|make|3|--run=q|--run=q")?;
-//! assert!(rt; command_of(rt.alloc(), &twice)?.is_none());
+//! match command_of(alloc, words) {
+//!     Err(_) => Ending::NoWords,
+//!     Ok(None) => Ending::Usage,
+//!     Ok(Some(command)) => obey(rt, alloc, command, shelf, wire, out, inside),
+//! }
 //! ```
 #![tactic(auto)]
 

@@ -1,15 +1,13 @@
 //! Reading the page of a fragment: its triples, and the controls that tell how to go on.
 //!
-//! The body of a reply is read as the page of the address that it was asked for:
+//! The body of a reply is read as the page of the address that it was asked for, or its first fault is told:
 //!
 //! ```rust
-//! let address = WebAddress::read(alloc, "http://h/d")?;
-//! let read = read_page(alloc, body.as_bytes(), &address);
-//! let page = read.ok().ok_or("a page")?;
-//! assert_eq!(rt; page.count, 1);
-//! assert_eq!(rt; page.triples.as_slice().len(), 3);
-//! let next = page.next.as_ref().ok_or("a next page")?;
-//! assert_eq!(rt; next.text(), "http://h/d?page=2");
+//! match read_page(alloc, body, address) {
+//!     Ok(page) => page_text(alloc, &page, show),
+//!     Err(PageFault::OutOfMemory) => Err(CaseFault::OutOfMemory),
+//!     Err(fault) => debug_text(alloc, &fault),
+//! }
 //! ```
 #![tactic(auto)]
 

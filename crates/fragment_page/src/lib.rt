@@ -1,13 +1,12 @@
 //! The page of a fragment, as a client holds it: its triples, and what its controls tell; and why a body is none.
 //!
-//! A page is read by `control_reader`, and a join goes over its triples:
+//! What is told of a page in a line: how many triples it has, how many its fragment, and the address of the next page, which
+//! `next_text` takes from `page.next`:
 //!
 //! ```rust
-//! let read = read_page(alloc, body.as_bytes(), &address);
-//! let page: Page = read.ok().ok_or("a page")?;
-//! for triple in page.triples.as_slice() {
-//!     write_triple(triple, out)?;
-//! }
+//! let triples = page.triples.as_slice().len();
+//! let next = next_text(page);
+//! Ok(format!(in alloc; "{triples} {} {next}", page.count)?)
 //! ```
 #![tactic(auto)]
 

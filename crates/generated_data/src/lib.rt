@@ -1,11 +1,14 @@
 //! Generated data of any size, for trying the program out and for measuring it.
 //!
-//! The N-Quads of three persons, five lines, are written to a sink in memory:
+//! The N-Quads of so many persons are written to a sink in memory, which never fails:
 //!
 //! ```rust
-//! let mut sink = MemSink::new(rt.alloc(), Failing::Never);
-//! assert_eq!(rt; write_generated(rt.alloc(), 3, &mut sink), Ok(()));
-//! assert_eq!(rt; sink.taken(), THREE);
+//! let mut text = MemSink::new(alloc, Failing::Never);
+//! match write_generated(alloc, persons, &mut text) {
+//!     Ok(()) => Ok(text),
+//!     Err(Fault::OutOfMemory) => Err(OutOfMemory),
+//!     Err(Fault::Failed) => unreachable!(),
+//! }
 //! ```
 #![tactic(auto)]
 

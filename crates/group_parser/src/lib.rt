@@ -1,11 +1,14 @@
 //! Reads queries with groups: blocks of triple patterns, UNION, OPTIONAL and DISTINCT.
 //!
-//! The names of a query are those of all its blocks:
+//! The query of the bytes of a file, with groups (`Asked::Groups`) or as one basic graph pattern (`Asked::Plain`), or its
+//! first fault and the place of it:
 //!
 //! ```rust
-//! let text = "SELECT ?x ?y WHERE { ?x <http://e/n> ?v OPTIONAL { ?x <http://e/m> ?y } }";
-//! let query = parse_group(rt.alloc(), text.as_bytes())?;
-//! assert_eq!(rt; query.shown().names().len(), 3);
+//! match parse_asked(alloc, &bytes) {
+//!     Ok(asked) => Ok(asked),
+//!     Err(GroupFault::Bad { at, why }) => Err(QueryFileFault::Bad { at, why }),
+//!     Err(GroupFault::OutOfMemory) => Err(QueryFileFault::OutOfMemory),
+//! }
 //! ```
 #![tactic(auto)]
 

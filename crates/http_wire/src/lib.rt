@@ -1,16 +1,15 @@
 //! Requests and replies of HTTP/1.x as bytes, over any cuts (RFC 9110 and RFC 9112).
 //!
-//! The pieces of a reply are fed as they come. The piece that ends it here has one byte more, which
-//! belongs to what follows:
+//! The pieces of a reply are fed as they come, here all of it as one. What `feed` answers says whether more has to come, how
+//! many bytes of the last piece belong to the reply, or why it is refused, as where the body has more bytes than the limit:
 //!
 //! ```rust
-//! let mut feed = ReplyFeed::new(rt.alloc(), 9);
-//! feed.feed(b"HTTP/1.1 200 OK\r\nContent-Type: application/n-quads\r\n")?;
-//! let answer = feed.feed(b"Content-Length: 3\r\n\r\nabcd")?;
-//! assert!(rt; answer == Fed::Done { used: 24 });
-//! let reply = feed.take().ok_or("a whole reply")?;
-//! assert_eq!(rt; reply.body.as_slice(), b"abc".as_slice());
-//! assert!(rt; reply.keeps);
+//! let mut feed = ReplyFeed::new(alloc, 1000000);
+//! let _fed = feed.feed(response)?;
+//! match feed.take() {
+//!     Some(reply) => Ok(reply.body),
+//!     None => Err(Fail::new("no reply")),
+//! }
 //! ```
 #![tactic(auto)]
 

@@ -1,17 +1,14 @@
 //! The addresses of a fragment's pages, and the metadata that a page has beside its triples
 //! (Triple Pattern Fragments, "Metadata" and "Controls").
 //!
-//! The lines of page 1 of a fragment with no place fixed (`free()`) and no triples, in data of version 1, of which the
-//! first (`FIRST`) tells what the page is about:
+//! The lines of a page are made one by one as they are sent, so a response tells its length before there is any of them.
+//! Here are those of a page that no rows restrict, behind triples whose lines have so many bytes:
 //!
 //! ```rust
-//! let lines = MetadataLines::new(rt.alloc(), &config, &free(), &[], 1, 0, 1)?;
-//! let mut text = Vec::new(rt.alloc());
-//! for i in 0..lines.count() {
-//!     lines.write(i, &mut text)?;
-//! }
-//! assert!(rt; text.as_slice().starts_with(FIRST));
-//! assert_eq!(rt; text.len(), 2258);
+//! let version = snapshot.number();
+//! let metadata = MetadataLines::new(alloc, config, slots, &[], number, view.count, version)?;
+//! let bytes = triples_length(table, &triples);
+//! let length = bytes + metadata.total_length();
 //! ```
 #![tactic(auto)]
 

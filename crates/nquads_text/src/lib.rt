@@ -1,16 +1,14 @@
 //! N-Quads text, read whole, and written in canonical form (RDF 1.1 N-Quads, RDF 1.1 N-Triples 4).
 //!
-//! A text is read into quads, and each of them is written as its canonical line:
+//! A text is read into quads, whose canonical lines `lines` makes, each by `write_quad`; or its first fault is told:
 //!
 //! ```rust
-//! let text = "<http://e/s> <http://e/p> \"caf\\u00E9\"@FR .# a comment";
-//! let line = "<http://e/s> <http://e/p> \"café\"@fr .\n";
-//! let quads = read_all(alloc, text.as_bytes(), LONGEST)?;
-//! let mut lines = Vec::new(alloc);
-//! for quad in &quads {
-//!     write_quad(quad, &mut lines)?;
+//! let read = read_all(alloc, text, longest);
+//! match read {
+//!     Ok(quads) => lines(alloc, quads.as_slice()),
+//!     Err(TextFault::OutOfMemory) => Err(CaseFault::OutOfMemory),
+//!     Err(fault) => debug_text(alloc, &fault),
 //! }
-//! assert_eq!(rt; lines.as_slice(), line.as_bytes());
 //! ```
 #![tactic(auto)]
 

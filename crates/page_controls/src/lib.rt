@@ -1,14 +1,21 @@
 //! The controls of a page: what the quads of a body tell of the page (Triple Pattern Fragments, "Metadata" and
 //! "Controls"; Hydra core vocabulary; VoID).
 //!
-//! The quads of a body are gone through once, and tell the number of triples, the form, the next page and the version:
+//! The quads of a body are gone through once, and tell the number of triples, the form, the next page and the version; the
+//! marks say which of the quads are data:
 //!
 //! ```rust
-//! let address = WebAddress::read(alloc, "http://h/d")?;
-//! let quads = read_all(alloc, body.as_bytes(), LONGEST_READ)?;
-//! let read = read_controls(alloc, quads.as_slice(), &address);
-//! let told = read.ok().ok_or("controls")?.told;
-//! assert_eq!(rt; told.count, 1);
+//! let parts = match read_controls(alloc, quads.as_slice(), address) {
+//!     Ok(parts) => parts,
+//!     Err(fault) => return Err(fault),
+//! };
+//! let PageControls { told, marks } = parts;
+//! let Told {
+//!     count,
+//!     form,
+//!     next,
+//!     version,
+//! } = told;
 //! ```
 #![tactic(auto)]
 

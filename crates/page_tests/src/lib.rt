@@ -1,12 +1,9 @@
-//! Tests of pages and of what serves them: those from which the first doc comments of their libraries take their
-//! examples, and pages of every kind compared with the fragments that are found the plain way.
+//! Pages of every kind compared with the fragments that are found the plain way, and the text of a result piece by piece.
 #![tactic(auto)]
 
-#[cfg(test)]
-mod pages;
 #[cfg(test)]
 mod plain;
 #[cfg(test)]
 mod restricted;
 #[cfg(test)]
-mod serving;
+mod results;

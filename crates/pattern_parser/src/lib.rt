@@ -1,14 +1,17 @@
 //! Queries: SPARQL 1.1 basic graph patterns with prefixes, lists and the short forms of terms.
 //!
 //! A query has its triple patterns, the names of its variables and blank nodes, and the numbers of
-//! those names that it selects:
+//! those names that it selects. The query of the bytes of a file, or its first fault and the place of it:
 //!
 //! ```rust
-//! let text = "PREFIX v: <http://e/> SELECT ?x WHERE { ?x v:name 'Alice' ; v:knows ?y }";
-//! let query = parse(rt.alloc(), text.as_bytes())?;
-//! assert_eq!(rt; query.patterns().len(), 2);
-//! assert_eq!(rt; query.names().len(), 2);
-//! assert!(rt; query.selected() == [0].as_slice());
+//! match parse(alloc, &bytes) {
+//!     Ok(query) => Ok(query),
+//!     Err(QueryFault::Bad { at, why }) => Err(QueryFileFault::Bad {
+//!         at,
+//!         why: GroupWhy::Basic(why),
+//!     }),
+//!     Err(QueryFault::OutOfMemory) => Err(QueryFileFault::OutOfMemory),
+//! }
 //! ```
 #![tactic(auto)]
 

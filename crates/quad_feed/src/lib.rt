@@ -3,11 +3,11 @@
 //! Each line is read when it has ended, and the whole text is never kept:
 //!
 //! ```rust
-//! let mut feed = QuadFeed::new(alloc, LONGEST);
-//! for piece in text.as_bytes().chunks(7) {
+//! let mut feed = QuadFeed::new(alloc, longest);
+//! for piece in text.chunks(length.max(1)) {
 //!     feed.feed(piece)?;
 //! }
-//! let quads = feed.finish()?;
+//! feed.finish()
 //! ```
 #![tactic(auto)]
 

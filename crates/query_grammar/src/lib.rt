@@ -1,17 +1,18 @@
 //! The grammar of queries over kinds of token: which tokens are a query, and the first that cannot
 //! come.
 //!
-//! `SELECT * { }` is a query, and `SELECT` alone ends too early:
+//! What the kinds of the words of a text come to. The number of a fault is that of a word, or how many there are where the
+//! text ends too early:
 //!
 //! ```rust
-//! let empty = [
-//!     Kind::SelectWord,
-//!     Kind::Star,
-//!     Kind::OpenBrace,
-//!     Kind::CloseBrace,
-//! ];
-//! assert_eq!(rt; grammar_fault(empty.as_slice()), None);
-//! assert_eq!(rt; grammar_fault([Kind::SelectWord].as_slice()), Some(1));
+//! let kinds = kinds_of(alloc, words)?;
+//! match grammar_fault(kinds.as_slice()) {
+//!     None => Ok(()),
+//!     Some(number) => Err(QueryFault::Bad {
+//!         at: place_or(words, number, end),
+//!         why: QueryWhy::Grammar,
+//!     }),
+//! }
 //! ```
 #![tactic(auto)]
 

@@ -1,15 +1,15 @@
 //! The tokens of a query's text (SPARQL 1.1, section 19.8).
 //!
-//! A token has its kind and its place, in characters and in bytes. Here `é` has two bytes:
+//! The tokens of some characters, each with its kind and its place in characters and in bytes, or the place of the first
+//! character that begins none:
 //!
 //! ```rust
-//! let chars = ['?', 'é', '.'];
-//! let tokens = pieces(rt.alloc(), chars.as_slice())?;
-//! let [variable, dot] = tokens.as_slice() else {
-//!     return Err(Fail::new("no two tokens"));
-//! };
-//! assert!(rt; variable.kind == PieceKind::Variable && variable.at == 0 && variable.to == 3);
-//! assert!(rt; dot.kind == PieceKind::Dot && dot.at == 3 && dot.to == 4);
+//! let chars = chars_of(alloc, case)?;
+//! match pieces(alloc, chars.as_slice()) {
+//!     Ok(pieces) => pieces_text(alloc, pieces.as_slice()),
+//!     Err(PieceFault::At(at)) => fault_text(alloc, at),
+//!     Err(PieceFault::OutOfMemory) => Err(CaseFault::OutOfMemory),
+//! }
 //! ```
 #![tactic(auto)]
 

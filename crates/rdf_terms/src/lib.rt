@@ -1,15 +1,17 @@
 //! Terms of RDF: their grammar, equality and order, triples and quads, the slots of a fragment (a triple
 //! pattern), and selections: fragments that rows restrict.
 //!
-//! A literal of the datatype xsd:string is the plain one, and what is no term is refused:
+//! The term of a class, where `kind` is its tag or its datatype. What is no term is refused, and a literal of the datatype
+//! xsd:string is the plain one:
 //!
 //! ```rust
-//! let plain = Term::plain(alloc, "1")?;
-//! let string = Term::typed(alloc, "1", STRING)?;
-//! let integer = Term::typed(alloc, "1", INTEGER)?;
-//! assert_eq!(rt; string.same(&plain), true);
-//! assert_eq!(rt; integer.same(&plain), false);
-//! assert_eq!(rt; Term::iri(alloc, "example").err(), Some(TermFault::Iri));
+//! match class {
+//!     "<" => Term::iri(alloc, text),
+//!     "_" => Term::blank(alloc, text),
+//!     "@" => Term::tagged(alloc, text, kind),
+//!     "^" => Term::typed(alloc, text, kind),
+//!     _ => Ok(Term::plain(alloc, text)?),
+//! }
 //! ```
 #![tactic(auto)]
 

@@ -1,18 +1,19 @@
 //! A pool of exchanges, each an HTTP request and its response on one connection (link), over one wire, the transport: asks
 //! wait, are in flight, and come or fail.
 //!
-//! A pool is made by `Pool::new` and given asks by `put`. This is a step of it: a reply comes for a ticket, nothing does
-//! yet, or all came (`Stepped::Idle`); or it ends with a fault:
+//! A pool is made by `Pool::new` and given asks by `put`. These are its steps, at most so many. In each a reply comes for a
+//! ticket (`Stepped::Came`), nothing does yet (`Waited`), or all came (`Idle`); or it ends with a fault. `add_step` notes
+//! which, and says whether another step may follow:
 //!
 //! ```rust
-//! match pool.step(wire) {
-//!     Ok(stepped) => {
-//!         told = format!(in alloc; "{told}{}", shown(alloc, &stepped)?)?;
-//!         if matches!(stepped, Stepped::Idle) {
-//!             return Ok(told);
-//!         }
+//! while done < most {
+//!     done += 1;
+//!     let step = pool.step(wire);
+//!     let goes_on = add_step(alloc, &step, told);
+//!     drop(step);
+//!     if !goes_on? {
+//!         return Ok(());
 //!     }
-//!     Err(fault) => return Ok(format!(in alloc; "{told}{}", fault_name(&fault))?),
 //! }
 //! ```
 #![tactic(auto)]

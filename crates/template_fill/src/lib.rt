@@ -1,17 +1,12 @@
 //! Terms in addresses: explicit forms, web addresses, templates and what fills them.
 //!
-//! The address of a page says which triple pattern is asked for. Where the fragments stand at `base`, here
-//! `http://localhost/data`:
+//! The address of a page says which triple pattern is asked for, and by which rows it is restricted. Where the fragments
+//! stand at `base`, that of the page with a number, for the slots and the rows of a case:
 //!
 //! ```rust
-//! let key = Term::iri(alloc, "http://e/k")?;
-//! let slots = Slots {
-//!     subject: Slot::Any,
-//!     predicate: Slot::Fixed(key),
-//!     object: Slot::Any,
-//! };
-//! let wanted = "http://localhost/data?predicate=http%3A%2F%2Fe%2Fk&page=3";
-//! assert_eq!(rt; page_address(alloc, &base, &slots, &[], 3)?.text(), wanted);
+//! let slots = slots_of(alloc, case)?;
+//! let rows = rows_of(alloc, case)?;
+//! given(alloc, page_address(alloc, base, &slots, &rows, page))
 //! ```
 #![tactic(auto)]
 

@@ -1,13 +1,13 @@
 //! A query over a wire: the pages of a server are asked for, joined, and written as the text of a result or gathered in a list.
 //!
-//! A query, the address of any fragment of the server, a wire to dial it and a sink for the text of the
-//! result; `parse` of `pattern_parser` reads the text of a query:
+//! A query that has no groups, the address of any fragment of the server, a wire to dial it and a sink for the text of the
+//! result. `query` is imported as `query_server` here:
 //!
 //! ```rust
-//! let asked = parse(alloc, text.as_bytes())?;
-//! let start = WebAddress::read(alloc, base)?;
-//! let mut out = MemSink::new(alloc, fails);
-//! let ended = query(rt, alloc, &asked, &start, options, wire, &mut out);
+//! Asked::Plain(query) => {
+//!     let _patterns = query.patterns();
+//!     answered(query_server(rt, alloc, &query, start, options, wire, out))
+//! }
 //! ```
 #![tactic(auto)]
 

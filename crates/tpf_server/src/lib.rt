@@ -2,16 +2,14 @@
 //! Where its configuration reads rows, a request may restrict a fragment by up to `MOST_ROWS` (64) of
 //! them (brTPF), and is answered with what they leave, page by page.
 //!
-//! A request comes, and the first page of all triples is made and taken:
+//! A connection is made by `Connection::new`, and `feed` is told the bytes that come. Some of what it owes is made when there
+//! is room for it, and taken as it is sent:
 //!
 //! ```rust
-//! let mut connection = Connection::new(rt.alloc());
-//! connection.feed(&server, b"GET /data HTTP/1.1\r\nHost: localhost\r\n\r\n")?;
-//! connection.fill(&server)?;
-//! assert!(rt; starts(connection.pending(), FIRST));
-//! let length = connection.pending().len();
-//! connection.take(length);
-//! assert!(rt; connection.pending().is_empty() && !connection.owes());
+//! connection.fill(server)?;
+//! let n = connection.pending().len();
+//! out.extend_from_slice(connection.pending())?;
+//! connection.take(n);
 //! ```
 #![tactic(auto)]
 
