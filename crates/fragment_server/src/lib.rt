@@ -1,16 +1,11 @@
 //! A server of Triple Pattern Fragments as the server's loop (`serve_loop`) and the transport in one
 //! process, or wire (`loop_wire`), take one.
 //!
-//! Such a wire: at its other end stands the server, and its calls with these numbers fail:
+//! Such a wire: at its other end stands the server, and each of its dials fails that is so many times `fail_every`:
 //!
 //! ```rust
-//! let server = server(alloc)?;
-//! let mut wire: LoopWire<FragmentConnection> = LoopWire::new(
-//!     alloc,
-//!     server,
-//!     seed,
-//!     Failing::At(calls),
-//! );
+//! let failing = Failing::Dials(asked.fail_every);
+//! let mut wire: LoopWire<FragmentConnection> = LoopWire::new(alloc, server, asked.seed, failing);
 //! ```
 //!
 //! Behind a `LoopWire<FragmentConnection, Several>` several servers stand, each at the host and the port of

@@ -58,15 +58,6 @@ fn scripts_of(alloc: Global, links: &[Link]) -> Result<Vec<Script>, Fail> {
     Ok(scripts)
 }
 
-/// How many links these are.
-pub fn count_of(links: &[Link]) -> usize {
-    let mut count: usize = 0;
-    for link in links {
-        count = count.saturating_add(link.times);
-    }
-    count
-}
-
 /// A wire with these links.
 pub fn wire_of(alloc: Global, links: &[Link], failing: Failing) -> Result<Box<ScriptWire>, Fail> {
     let scripts = scripts_of(alloc, links)?;

@@ -1,5 +1,5 @@
 // How runs end, and what is shown of that.
-use crate::sent::{answers_in, order_in, targets_in};
+use crate::sent::{answers_in, order_in, targets_in, times};
 use crate::setups::Failure;
 use case_rows::{Case, CaseFault, number_text, sorted_result, word_text};
 use std::alloc::Global;
@@ -65,6 +65,8 @@ pub struct Show {
     count: Option<String>,
     said: Vec<String>,
     order: Vec<String>,
+    /// The text of each triple of a page, where answers are shown whole.
+    triples: Option<String>,
 }
 
 /// `wire`: whether one is `left` inside, or `none`.
@@ -90,13 +92,14 @@ fn traffic_of(case: &mut Case<'_>) -> Result<Traffic, CaseFault> {
     Ok(Traffic::Order)
 }
 
-/// `sorted`, `count`, `said`, `wire`, `targets`, `answers`, `order`: what is to be shown of a run.
+/// `sorted`, `count`, `said`, `wire`, `targets`, `answers`, `triples`, `order`: what is to be shown of a run.
 pub fn show_of(alloc: Global, case: &mut Case<'_>) -> Result<Box<Show>, CaseFault> {
     let is_sorted = case.flag("sorted")?;
     let has_wire = has_wire_of(alloc, case)?;
     let traffic = traffic_of(case)?;
     let said = case.texts(alloc, "said")?;
     let order = case.texts(alloc, "order")?;
+    let triples = case.text_if(alloc, "triples")?;
     let count = case.text_if(alloc, "count")?;
     let show = Show {
         is_sorted,
@@ -105,6 +108,7 @@ pub fn show_of(alloc: Global, case: &mut Case<'_>) -> Result<Box<Show>, CaseFaul
         count,
         said,
         order,
+        triples,
     };
     Ok(Box::new(alloc, show)?)
 }
@@ -115,11 +119,6 @@ fn text_of(taken: &[u8]) -> Result<&str, CaseFault> {
         Ok(text) => Ok(text),
         Err(_) => Err(CaseFault::Row),
     }
-}
-
-/// How often a text stands in another.
-fn times(text: &str, part: &str) -> usize {
-    text.split(part).count().saturating_sub(1)
 }
 
 /// The status of a run, its output, its line on the standard error, and what it sent.
@@ -173,7 +172,7 @@ impl Show {
         };
         match self.traffic {
             Traffic::Targets => targets_in(alloc, sent.as_str()),
-            Traffic::Answers => answers_in(alloc, sent.as_str()),
+            Traffic::Answers => answers_in(alloc, sent.as_str(), &self.triples),
             Traffic::Order => word_text(alloc, order_in(sent.as_str(), self.order.as_slice())),
         }
     }

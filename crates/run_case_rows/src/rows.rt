@@ -53,7 +53,9 @@ fn shown<P: Runs>(
 /// `sorted`, and how often `count` stands in it where the row has that text; of the line the words `as said` where it
 /// has the front and the end of `said`. `wire` says whether one is `left` inside, or `none`. With `targets` those of the
 /// requests on that wire are shown, with `answers` the answers, and with `order` which of two texts was sent first. With
-/// `seeds` the run is repeated with so many seeds, and it ends always so.
+/// `triples` beside `answers` each answer has a body of the length that it tells or none, and it is shown how often that
+/// text stands in a page, that an answer `closes` its connection, and that a link has no answer. With `seeds` the run is
+/// repeated with so many seeds, and it ends always so.
 pub fn alone<P: Runs>(
     program: &P,
     alloc: Global,

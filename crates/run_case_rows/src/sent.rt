@@ -1,5 +1,5 @@
 // What was sent on the links of wires.
-use case_rows::CaseFault;
+use case_rows::{CaseFault, push_number};
 use std::alloc::Global;
 use std::str;
 
@@ -100,37 +100,100 @@ fn push_parts(head: &str, body: &str, out: &mut String) -> Result<(), CaseFault>
     }
 }
 
-/// Appends an answer.
-fn push_answer(answer: &str, out: &mut String) -> Result<(), CaseFault> {
-    match answer.split_once("\r\n\r\n") {
-        Some((head, body)) => push_parts(head, body, out),
-        None => Err(CaseFault::Row),
+/// How often a text stands in another.
+pub fn times(text: &str, part: &str) -> usize {
+    text.split(part).count().saturating_sub(1)
+}
+
+/// Whether an answer has no body, or one of the length that its head tells.
+fn is_whole(answer: &str, body: &str) -> bool {
+    let length = between(answer, "Content-Length: ", "\r\n").unwrap_or("");
+    body.is_empty() || length.parse::<usize>().unwrap_or(usize::MAX) == body.len()
+}
+
+/// Appends how many triples with this text a page has, and whether an answer ends its connection.
+fn push_rest(
+    alloc: Global,
+    head: &str,
+    body: &str,
+    triple: &str,
+    out: &mut String,
+) -> Result<(), CaseFault> {
+    if body.contains("totalItems> ") {
+        out.push_str(" triples ")?;
+        push_number(alloc, times(body, triple) as u64, out)?;
     }
+    let closes = head.contains("Connection: close");
+    Ok(out.push_str(if closes { " closes" } else { "" })?)
+}
+
+/// Appends an answer, which is whole where there is a text of triples, with the rest of what is to be shown of it.
+fn push_answer(
+    alloc: Global,
+    answer: &str,
+    triple: &Option<String>,
+    out: &mut String,
+) -> Result<(), CaseFault> {
+    let Some((head, body)) = answer.split_once("\r\n\r\n") else {
+        return Err(CaseFault::Row);
+    };
+    push_parts(head, body, out)?;
+    let Some(triple) = triple else {
+        return Ok(());
+    };
+    if !is_whole(answer, body) {
+        return Err(CaseFault::Differs);
+    }
+    push_rest(alloc, head, body, triple.as_str(), out)
 }
 
 /// Appends the answers on a link, with a comma between each two.
-fn push_answers(text: &str, out: &mut String) -> Result<(), CaseFault> {
+fn push_answers(
+    alloc: Global,
+    text: &str,
+    triple: &Option<String>,
+    out: &mut String,
+) -> Result<(), CaseFault> {
     for (i, answer) in text.split("HTTP/1.1 ").skip(1).enumerate() {
         out.push_str(if i == 0 { "" } else { ", " })?;
-        push_answer(answer, out)?;
+        push_answer(alloc, answer, triple, out)?;
     }
     Ok(())
 }
 
 /// Appends the answers on a link, in brackets.
-fn push_link(text: &str, out: &mut String) -> Result<(), CaseFault> {
+fn push_link(
+    alloc: Global,
+    text: &str,
+    triple: &Option<String>,
+    out: &mut String,
+) -> Result<(), CaseFault> {
     out.push('[')?;
-    push_answers(text, out)?;
+    push_answers(alloc, text, triple, out)?;
     Ok(out.push(']')?)
 }
 
-/// The answers on each link, which stand in brackets.
-pub fn answers_in(alloc: Global, sent: &str) -> Result<String, CaseFault> {
-    let mut out = String::new(alloc);
-    for text in sent.split(END) {
-        if !text.is_empty() {
-            push_link(text, &mut out)?;
+/// Appends the answers on each link, in brackets; those of a link on which nothing was sent only where there is a text
+/// of triples.
+fn push_links(
+    alloc: Global,
+    links: &str,
+    triple: &Option<String>,
+    out: &mut String,
+) -> Result<(), CaseFault> {
+    for text in links.split(END) {
+        if triple.is_some() || !text.is_empty() {
+            push_link(alloc, text, triple, out)?;
         }
+    }
+    Ok(())
+}
+
+/// The answers on each link, which stand in brackets; where there is a text of triples, with the rest that it asks for.
+pub fn answers_in(alloc: Global, sent: &str, triple: &Option<String>) -> Result<String, CaseFault> {
+    let mut out = String::new(alloc);
+    if let Some(links) = sent.strip_suffix(END) {
+        push_links(alloc, links, triple, &mut out)?;
     }
     Ok(out)
 }

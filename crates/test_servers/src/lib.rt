@@ -1,10 +1,10 @@
 //! Servers of N-Quads text in one process, and texts for them, that several tests and programs of cases ask.
 //!
-//! A server of seven triples, on pages of three:
+//! A server without a triple, and a connection to it:
 //!
 //! ```rust
-//! let text = data_of(alloc, 7)?;
-//! let mut server = FragmentServer::new(server_of(alloc, text.as_str(), 3)?);
+//! let server = server_of(rt.alloc(), "", USUAL_PAGE)?;
+//! let mut connection = Connection::new(rt.alloc());
 //! ```
 #![tactic(auto)]
 
