@@ -1,10 +1,10 @@
 //! Servers of N-Quads text in one process, and texts for them, that several tests and programs of cases ask.
 //!
-//! A server without a triple, and a connection to it:
+//! The server that a test sets up, and what it asks of it:
 //!
 //! ```rust
-//! let server = server_of(rt.alloc(), "", USUAL_PAGE)?;
-//! let mut connection = Connection::new(rt.alloc());
+//! let server = server_of(alloc, setting.data, setting.page_size)?;
+//! play_over(alloc, &server, setting, way, seen)
 //! ```
 #![tactic(auto)]
 
