@@ -2,7 +2,6 @@
 use Rattle.std.proofs.Common.{ℕ, ◌≡◌, Option, Some, Result, Ok, Err, true, refl, sym, subst}
 use Rattle.tpf_base.specs.Links.{WireState}
 use Rattle.http_wire.specs.declared.message.Reply.{Reply}
-use Rattle.futures.specs.declared.task.Poll.TheVariants.{Ready}
 use Rattle.exchange.specs.Exchanges.{Exchanging, IsLinked, left_by, left_link}
 use Rattle.exchange.specs.Polls.{Answers}
 use Rattle.exchange.specs.declared.exchange.Standing.{Standing}
@@ -25,7 +24,7 @@ over_left Left o wire e = cc
 over_left Underway o wire e = tt
 over_left Over o wire e = tt
 
-pub ready_left : (old new : Exchanging) (wire wire' : WireState) (result : Result Reply ExchangeFault) → Answers old new wire wire' (Ready result) → IsLinked (left_link new) wire'
+pub ready_left : (old new : Exchanging) (wire wire' : WireState) (result : Result Reply ExchangeFault) → Answers old new wire wire' (Some result) → IsLinked (left_link new) wire'
 ready_left old new wire wire' (Ok answer) w = left_open new.standing new.link w.k wire' w.link (λ e. (w.is_open e).0)
 ready_left old new wire wire' (Err faults.Failed) w = over_left new.standing new.link wire' w.breaks.standing
 ready_left old new wire wire' (Err (faults.Cut received)) w = over_left new.standing new.link wire' w.ends.standing

@@ -4,7 +4,6 @@ ghost use Rattle.exchange.specs.Exchanges.{IsLinked, left_link};
 ghost use Rattle.exchange.specs.declared.exchange.Standing.TheVariants.{Underway};
 
 use exchange::{Exchange, ExchangeFault, ReceiveBuffer};
-use futures::task::Poll;
 use http_wire::Reply;
 use std::alloc::Global;
 use std::test::Fail;
@@ -24,8 +23,8 @@ fn polled<W: Dial>(
     let mut polls = 0u32;
     while polls < most {
         match exchange.poll(wire, buffer) {
-            Poll::Ready(answer) => return Some(answer),
-            Poll::Pending => polls += 1,
+            Some(answer) => return Some(answer),
+            None => polls += 1,
         }
     }
     None

@@ -1,10 +1,9 @@
 -- What the bytes come to, and whether the link stays.
-use Rattle.std.proofs.Common.{ℕ, ◌≡◌, ◌+◌, ◌==◌, ◌&&◌, List, length, Bool, true, false, Ok, refl, sym, ◌∙◌, ap, arith, if◌then◌else◌}
+use Rattle.std.proofs.Common.{ℕ, ◌≡◌, ◌+◌, ◌==◌, ◌&&◌, List, length, Bool, true, false, Ok, refl, sym, ◌∙◌, ap, arith, if◌then◌else◌, Some}
 use Rattle.std.proofs.lemmas.Bool.Decides.{nat_tests}
 use Rattle.tpf_base.specs.HttpReply as reply
 use Rattle.tpf_base.specs.HttpReply.{begun, is_open, after_bytes, reply_of}
 use Rattle.http_wire.specs.declared.message.Reply.{Reply}
-use Rattle.futures.specs.declared.task.Poll.TheVariants.{Ready}
 use Rattle.tpf_base.specs.Links.{WireState}
 use Rattle.tpf_base.specs.Calls.{Closes}
 use Rattle.exchange.specs.Exchanges.{Exchanging}
@@ -36,7 +35,7 @@ pub conclude_whole : (k : ℕ) (w new : Exchanging) (i : Coming) (spare : ℕ) (
     → ((n : ℕ) × (concluded i ≡ reply.Whole answer.body n answer.keeps) × (is_open i.place ≡ true → answer.keeps ≡ false))
     → ((body : List ℕ) (n : ℕ) (keeps : Bool) → reply_of i.received false i.limit ≡ reply.Whole body n keeps → n + spare ≡ length i.received)
     → new.standing ≡ (if stays then Left else Over) → (stays ≡ true → c ≡ b) → (stays ≡ false → Closes k b c) → stays ≡ answer.keeps && (spare == 0)
-    → Concludes k ended w new b c (Ready (Ok answer))
+    → Concludes k ended w new b c (Some (Ok answer))
 conclude_whole k w new i spare ended stays answer b c r l leads o whole behind standing left closes s =
     let here : is_open i.place ≡ ended =
     ap is_open leads ∙ ap (λ m. is_open (after_bytes m begun i.received)) (sym l) ∙ ap (λ x. is_open (after_bytes w.limit begun x)) (sym r) ∙ o in

@@ -7,8 +7,6 @@ use Rattle.tpf_base.specs.HttpReply as reply
 use Rattle.tpf_base.specs.HttpReply.{begun, is_open, after_bytes, reply_of}
 use Rattle.http_wire.specs.Laws.{WhatIsReadIsGiven}
 use Rattle.http_wire.specs.declared.message.Reply.{Reply}
-use Rattle.futures.specs.declared.task.Poll.{Poll}
-use Rattle.futures.specs.declared.task.Poll.TheVariants.{Ready, Pending}
 use Rattle.tpf_base.specs.Links.{Link, WireState, Sending, Receiving, IsRipe, is_short, some_left}
 use Rattle.tpf_base.specs.Links as links
 use Rattle.tpf_base.specs.Calls.{Closes}
@@ -71,10 +69,10 @@ then_received k old mid received a b c l (Some j) w = λ s r h. w s r (l.stands 
 no_link : {k : ℕ} (o : Option ℕ) → o ≡ Some k → o ≡ None → ⊥
 no_link o s n = cc
 
-pub then_answers : (k : ℕ) (old mid new : Exchanging) (a b c : WireState) (result : Poll (Result Reply ExchangeFault)) → Leading k old mid a b → new.link ≡ Some k → c.idle ≤ b.idle
+pub then_answers : (k : ℕ) (old mid new : Exchanging) (a b c : WireState) (result : Option (Result Reply ExchangeFault)) → Leading k old mid a b → new.link ≡ Some k → c.idle ≤ b.idle
     → Answers mid new b c result → Answers old new a c result
 unfolding then_ends
-then_answers k old mid new a b c Pending l n low w =
+then_answers k old mid new a b c None l n low w =
     let same = same_link _ _ w.link n in
     record {
       k = w.k;
@@ -91,7 +89,7 @@ then_answers k old mid new a b c Pending l n low w =
       front = w.front;
       stands = λ s r h. w.stands s r (l.stands s r h);
     }
-then_answers k old mid new a b c (Ready (Ok answer)) l n low w = record {
+then_answers k old mid new a b c (Some (Ok answer)) l n low w = record {
   k = w.k;
   link = w.link;
   received = w.received;
@@ -106,27 +104,27 @@ then_answers k old mid new a b c (Ready (Ok answer)) l n low w = record {
   sent_is = λ s r h. w.sent_is s r (l.stands s r h);
   received_is = λ s r h. w.received_is s r (l.stands s r h);
 }
-then_answers k old mid new a b c (Ready (Err faults.Failed)) l n low w = record {
+then_answers k old mid new a b c (Some (Err faults.Failed)) l n low w = record {
   breaks = then_breaks k old mid new a b c l w.breaks;
   rose = rose_on _ _ _ l.later w.rose;
   more = w.more;
   received_is = then_received k old mid new.received a b c l new.link w.received_is;
   due = λ st e t. absurd (no_link _ l.link (w.due (ap (λ x. x.steady) l.nature ∙ st) e (ap (λ x. x.every) l.nature ∙ t)).0);
 }
-then_answers k old mid new a b c (Ready (Err (faults.Cut received))) l n low w = record {
+then_answers k old mid new a b c (Some (Err (faults.Cut received))) l n low w = record {
   ends = then_ends k old mid new a b c received l w.ends;
   ended = w.ended;
   more = w.more;
   short = λ h. rose_on _ _ _ l.later (w.short h);
   not_due = λ st e t. w.not_due (ap (λ x. x.steady) l.nature ∙ st) e (ap (λ x. x.every) l.nature ∙ t);
 }
-then_answers k old mid new a b c (Ready (Err (faults.Bad fault received))) l n low w = record {
+then_answers k old mid new a b c (Some (Err (faults.Bad fault received))) l n low w = record {
   ends = then_ends k old mid new a b c received l w.ends;
   why = w.why;
   is_fault = w.is_fault;
   bad = w.bad;
 }
-then_answers k old mid new a b c (Ready (Err faults.OutOfMemory)) l n low w = then_breaks k old mid new a b c l w
+then_answers k old mid new a b c (Some (Err faults.OutOfMemory)) l n low w = then_breaks k old mid new a b c l w
 
 pub leads_leading : (k : ℕ) (old mid : Exchanging) (a b : WireState) → Leads k old mid a b → Leading k old mid a b
 leads_leading k old mid a b l = record {
@@ -140,7 +138,7 @@ leads_leading k old mid a b l = record {
   woken = l.woken;
 }
 
-pub seen_as : (v w new : Exchanging) (a c : WireState) (result : Poll (Result Reply ExchangeFault)) → v ≡ w → Answers v new a c result → Answers w new a c result
+pub seen_as : (v w new : Exchanging) (a c : WireState) (result : Option (Result Reply ExchangeFault)) → v ≡ w → Answers v new a c result → Answers w new a c result
 seen_as v w new a c result e h = subst (λ (x : Exchanging). Answers x new a c result) e h
 
 -- ---- waiting
@@ -259,12 +257,12 @@ settled b c stays x f e left over = elim (settled_by stays x e) [
 ]
 
 pub reply_concludes : (k : ℕ) (address : Address) (sent : List ℕ) (from to : Coming) (ended : Bool) (old_standing mid_standing : Standing) (new : Exchanging) (a b c : WireState)
-    (result : Poll (Result Reply ExchangeFault)) → ReceivedAll k address sent from to ended a b
+    (result : Option (Result Reply ExchangeFault)) → ReceivedAll k address sent from to ended a b
     → Concludes k ended (on_link address to.limit k sent to.received mid_standing) new b c result → new.address ≡ address → new.limit ≡ to.limit → new.link ≡ Some k
     → Answers (on_link address from.limit k sent from.received old_standing) new a c result
 unfolding reply_ends
-reply_concludes k address sent from to ended old_standing mid_standing new a b c Pending h w ad li l = absurd w
-reply_concludes k address sent from to ended old_standing mid_standing new a b c (Ready (Ok answer)) h w ad li l = record {
+reply_concludes k address sent from to ended old_standing mid_standing new a b c None h w ad li l = absurd w
+reply_concludes k address sent from to ended old_standing mid_standing new a b c (Some (Ok answer)) h w ad li l = record {
   k = k;
   link = l;
   received = to.received;
@@ -283,21 +281,21 @@ reply_concludes k address sent from to ended old_standing mid_standing new a b c
       holds_same _ _ _ (settled b c _ new.standing (λ x. (x.links k).sent) w.3 w.4 (λ o. (w.5 o).sent)) (all_sent k address sent from to ended a b h s held.0) bytes t ∙ ap (λ x. s ++ request_of x) (sym ad);
   received_is = λ s r held. holds_same _ _ _ (settled b c _ new.standing (λ x. (x.links k).received) w.3 w.4 (λ o. (w.5 o).received)) (all_received k address sent from to ended a b h r held.1);
 }
-reply_concludes k address sent from to ended old_standing mid_standing new a b c (Ready (Err faults.Failed)) h w ad li l = absurd w
-reply_concludes k address sent from to ended old_standing mid_standing new a b c (Ready (Err (faults.Cut received))) h w ad li l = record {
+reply_concludes k address sent from to ended old_standing mid_standing new a b c (Some (Err faults.Failed)) h w ad li l = absurd w
+reply_concludes k address sent from to ended old_standing mid_standing new a b c (Some (Err (faults.Cut received))) h w ad li l = record {
   ends = reply_ends k address sent from to ended old_standing new a b c received h w.1 w.3 w.4 ad l;
   ended = holds_same _ _ _ w.3.ended (h.at_end w.0);
   more = ap (λ x. reply_of received true x) li ∙ w.2;
   short = λ e. subst (λ (x : ℕ). Rose a.faults x) (sym w.3.faults) (h.short w.0 (ap₂ some_left (sym w.3.received) (sym w.3.owed) ∙ e));
   not_due = λ st e t. ap₂ some_left w.3.received w.3.owed ∙ h.not_due w.0 st e t;
 }
-reply_concludes k address sent from to ended old_standing mid_standing new a b c (Ready (Err (faults.Bad fault received))) h w ad li l = record {
+reply_concludes k address sent from to ended old_standing mid_standing new a b c (Some (Err (faults.Bad fault received))) h w ad li l = record {
   ends = reply_ends k address sent from to ended old_standing new a b c received h w.0 w.2 w.3 ad l;
   why = w.1.0;
   is_fault = w.1.1;
   bad = ap (λ x. reply_of received false x) li ∙ w.1.2;
 }
-reply_concludes k address sent from to ended old_standing mid_standing new a b c (Ready (Err faults.OutOfMemory)) h w ad li l = absurd w
+reply_concludes k address sent from to ended old_standing mid_standing new a b c (Some (Err faults.OutOfMemory)) h w ad li l = absurd w
 
 -- ---- sending
 
@@ -417,7 +415,7 @@ reply_broken k o w new address sent from to lost old_standing a b c e l s h clos
     subst (λ (x : Exchanging). Breaks w x a c) (ap (λ x. with_link address to.limit x sent to.received Over) (sym q) ∙ sym n) v'
 
 pub reply_read : (k : ℕ) (o : Option ℕ) (w new : Exchanging) (address : Address) (sent : List ℕ) (from to : Coming) (lost : List ℕ) (ended : Bool) (old_standing mid_standing : Standing) (a b c : WireState)
-    (result : Poll (Result Reply ExchangeFault)) → with_link address from.limit o sent from.received old_standing ≡ w → w.link ≡ Some k → w.sent ≡ request_of w.address
+    (result : Option (Result Reply ExchangeFault)) → with_link address from.limit o sent from.received old_standing ≡ w → w.link ≡ Some k → w.sent ≡ request_of w.address
     → ReceivesFrom k from to lost a b → lost ≡ [] → (a.links k).is_open ≡ true → b.idle ≡ 0 → (ended ≡ true → Holds (b.links k).ended true)
     → (ended ≡ true → is_short (b.links k) ≡ true → Rose a.faults b.faults)
     → (ended ≡ true → a.nature.steady ≡ true → (e : ℕ) → a.nature.every ≡ Some e → is_short (b.links k) ≡ false) → (ended ≡ false → (b.links k).stalled ≡ None)
@@ -441,23 +439,23 @@ reply_read k o w new address sent from to lost ended old_standing mid_standing a
     (reply_concludes k address sent from to ended old_standing mid_standing new a b c result all
     (subst (λ (x : Option ℕ). Concludes k ended (with_link address to.limit x sent to.received mid_standing) new b c result) q concludes) ad li (nl ∙ q))
 
-pub as_result : (w new : Exchanging) (a c : WireState) (r s : Poll (Result Reply ExchangeFault)) → s ≡ r → Answers w new a c r → Answers w new a c s
-as_result w new a c r s e h = subst (λ (x : Poll (Result Reply ExchangeFault)). Answers w new a c x) (sym e) h
+pub as_result : (w new : Exchanging) (a c : WireState) (r s : Option (Result Reply ExchangeFault)) → s ≡ r → Answers w new a c r → Answers w new a c s
+as_result w new a c r s e h = subst (λ (x : Option (Result Reply ExchangeFault)). Answers w new a c x) (sym e) h
 
 -- ---- what is kept behind an answer
 
-pub handed_all : (held : List ℕ) (r : Poll (Result Reply ExchangeFault)) → held ≡ [] → HandsOver held r
-handed_all held Pending e = tt
-handed_all held (Ready (Ok answer)) e = e
-handed_all held (Ready (Err faults.Failed)) e = tt
-handed_all held (Ready (Err (faults.Cut received))) e = e
-handed_all held (Ready (Err (faults.Bad fault received))) e = e
-handed_all held (Ready (Err faults.OutOfMemory)) e = tt
+pub handed_all : (held : List ℕ) (r : Option (Result Reply ExchangeFault)) → held ≡ [] → HandsOver held r
+handed_all held None e = tt
+handed_all held (Some (Ok answer)) e = e
+handed_all held (Some (Err faults.Failed)) e = tt
+handed_all held (Some (Err (faults.Cut received))) e = e
+handed_all held (Some (Err (faults.Bad fault received))) e = e
+handed_all held (Some (Err faults.OutOfMemory)) e = tt
 
-pub handed_as : (held : List ℕ) (r s : Poll (Result Reply ExchangeFault)) → s ≡ r → HandsOver held r → HandsOver held s
-handed_as held r s e h = subst (λ (x : Poll (Result Reply ExchangeFault)). HandsOver held x) (sym e) h
+pub handed_as : (held : List ℕ) (r s : Option (Result Reply ExchangeFault)) → s ≡ r → HandsOver held r → HandsOver held s
+handed_as held r s e h = subst (λ (x : Option (Result Reply ExchangeFault)). HandsOver held x) (sym e) h
 
-pub handed_undialled : (held : List ℕ) (w : Exchanging) (fault : ExchangeFault) (a c : WireState) → IsUndialled fault w a c → HandsOver held (Ready (Err fault))
+pub handed_undialled : (held : List ℕ) (w : Exchanging) (fault : ExchangeFault) (a c : WireState) → IsUndialled fault w a c → HandsOver held (Some (Err fault))
 handed_undialled held w faults.Failed a c u = tt
 handed_undialled held w (faults.Cut received) a c u = absurd u.cause
 handed_undialled held w (faults.Bad fault received) a c u = absurd u.cause
@@ -487,7 +485,7 @@ send_broken k o w new address limit request sent received from old_standing a b 
     subst (λ (x : Exchanging). Breaks w x a c) (ap (λ x. with_link address limit x sent received Over) (sym q) ∙ sym n) v'
 
 pub send_done : (k : ℕ) (o : Option ℕ) (w new : Exchanging) (address : Address) (limit : ℕ) (request received : List ℕ) (from to : ℕ) (old_standing mid_standing : Standing) (a b c : WireState)
-    (result : Poll (Result Reply ExchangeFault)) → with_link address limit o (take from request) received old_standing ≡ w → w.link ≡ Some k → request ≡ request_of address
+    (result : Option (Result Reply ExchangeFault)) → with_link address limit o (take from request) received old_standing ≡ w → w.link ≡ Some k → request ≡ request_of address
     → SendsFrom k request from to a b → to ≡ length request → (to ≡ from → b ≡ a) → new.link ≡ Some k → c.idle ≤ b.idle
     → Answers (with_link address limit o (take to request) received mid_standing) new b c result → Answers w new a c result
 send_done k o w new address limit request received from to old_standing mid_standing a b c result e l r h whole still n low answers =
@@ -553,7 +551,7 @@ undialled_breaks w v a c n = record {
 
 -- a dial that failed
 pub dial_answers : (fault : ExchangeFault) (w v : Exchanging) (a c : WireState) → v ≡ w → IsUndialled fault w a c → reply_of w.received false w.limit ≡ reply.More
-    → Answers w (with_link v.address v.limit v.link v.sent v.received Over) a c (Ready (Err fault))
+    → Answers w (with_link v.address v.limit v.link v.sent v.received Over) a c (Some (Err fault))
 dial_answers faults.Failed w v a c e u more =
     let n : v.link ≡ None = ap (λ x. x.link) e ∙ u.none in
     record {

@@ -1,13 +1,11 @@
 -- The parts of a poll, which serve its proof alone.
-use Rattle.std.specs.Prelude.{ℕ, ◌≡◌, ◌<◌, ◌≤◌, ◌^◌, ◌==◌, ◌&&◌, ◌⊎◌, Bool, true, false, List, length, Some, None, Result, Ok, Err, if◌then◌else◌}
+use Rattle.std.specs.Prelude.{ℕ, ◌≡◌, ◌<◌, ◌≤◌, ◌^◌, ◌==◌, ◌&&◌, ◌⊎◌, Bool, true, false, List, length, Some, None, Result, Ok, Err, if◌then◌else◌, Option}
 use Rattle.tpf_base.specs.Causes.{Rose}
 use Rattle.tpf_base.specs.Failures.{is_nth}
 use Rattle.tpf_base.specs.HttpReply as reply
 use Rattle.tpf_base.specs.HttpReply.{reply_of}
 use Rattle.http_wire.specs.Replies.{shown_fault}
 use Rattle.http_wire.specs.declared.message.Reply.{Reply}
-use Rattle.futures.specs.declared.task.Poll.{Poll}
-use Rattle.futures.specs.declared.task.Poll.TheVariants.{Ready, Pending}
 use Rattle.tpf_base.specs.Links.{WireState}
 use Rattle.tpf_base.specs.Calls.{Closes}
 use Rattle.tpf_base.specs.Sending.{CallsOnOpen}
@@ -61,13 +59,13 @@ pub record IsUndialled (fault : ExchangeFault) (old : Exchanging) (wire wire' : 
   pub cause : DialFault fault wire wire'
 
 -- What was received comes to this. The link stays open exactly where the reply keeps it and no byte stands behind it.
-abbrev pub Concludes : ℕ → Bool → Exchanging → Exchanging → WireState → WireState → Poll (Result Reply ExchangeFault) → Type 0
-Concludes k ended old new wire wire' Pending = ⊥
-Concludes k ended old new wire wire' (Ready (Ok answer)) = (n : ℕ) × (reply_of old.received ended old.limit ≡ reply.Whole answer.body n answer.keeps)
+abbrev pub Concludes : ℕ → Bool → Exchanging → Exchanging → WireState → WireState → Option (Result Reply ExchangeFault) → Type 0
+Concludes k ended old new wire wire' None = ⊥
+Concludes k ended old new wire wire' (Some (Ok answer)) = (n : ℕ) × (reply_of old.received ended old.limit ≡ reply.Whole answer.body n answer.keeps)
     × (ended ≡ true → answer.keeps ≡ false) × (new.standing ≡ (if answer.keeps && (n == length old.received) then Left else Over))
     × (new.standing ≡ Left → wire' ≡ wire) × (new.standing ≡ Over → Closes k wire wire')
-Concludes k ended old new wire wire' (Ready (Err faults.Failed)) = ⊥
-Concludes k ended old new wire wire' (Ready (Err (faults.Cut received))) = (ended ≡ true) × (received ≡ old.received) × (reply_of received true old.limit ≡ reply.More) × Closes k wire wire' × (new.standing ≡ Over)
-Concludes k ended old new wire wire' (Ready (Err (faults.Bad fault received))) = (received ≡ old.received)
+Concludes k ended old new wire wire' (Some (Err faults.Failed)) = ⊥
+Concludes k ended old new wire wire' (Some (Err (faults.Cut received))) = (ended ≡ true) × (received ≡ old.received) × (reply_of received true old.limit ≡ reply.More) × Closes k wire wire' × (new.standing ≡ Over)
+Concludes k ended old new wire wire' (Some (Err (faults.Bad fault received))) = (received ≡ old.received)
     × ((why : reply.ReplyFault) × (fault ≡ shown_fault why) × (reply_of received false old.limit ≡ reply.Bad why)) × Closes k wire wire' × (new.standing ≡ Over)
-Concludes k ended old new wire wire' (Ready (Err faults.OutOfMemory)) = ⊥
+Concludes k ended old new wire wire' (Some (Err faults.OutOfMemory)) = ⊥

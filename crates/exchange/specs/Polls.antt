@@ -8,8 +8,6 @@ use Rattle.tpf_base.specs.HttpReply.{reply_of}
 use Rattle.http_wire.specs.Replies.{shown_fault}
 use Rattle.http_wire.specs.declared.message.ReplyFault.{ReplyFault}
 use Rattle.http_wire.specs.declared.message.Reply.{Reply}
-use Rattle.futures.specs.declared.task.Poll.{Poll}
-use Rattle.futures.specs.declared.task.Poll.TheVariants.{Ready, Pending}
 use Rattle.tpf_base.specs.Links.{Link, WireState, Sending, Receiving, IsRipe, is_short, told_by}
 use Rattle.tpf_base.specs.Sending.{Holds}
 use Rattle.exchange.specs.Exchanges.{Exchanging, IsFront, request_of, Stands}
@@ -62,7 +60,7 @@ pub record Hangs (e : Exchanging) (link : Link) : Type 0 where
   pub sent : e.sent ≡ request_of e.address
   pub none_left : is_short link ≡ false
 
--- Pending: the stalls of its own link rose, no wait answered it since, it is ripe or the exchange hangs, a front of its request was sent, and the reply goes on. Over a steady wire a link that a wait woke has moved a byte.
+-- None: the stalls of its own link rose, no wait answered it since, it is ripe or the exchange hangs, a front of its request was sent, and the reply goes on. Over a steady wire a link that a wait woke has moved a byte.
 pub record Waits (old new : Exchanging) (wire wire' : WireState) : Type 0 where
   pub k : ℕ
   pub link : new.link ≡ Some k
@@ -77,7 +75,7 @@ pub record Waits (old new : Exchanging) (wire wire' : WireState) : Type 0 where
   pub front : IsFront new.sent (request_of new.address)
   pub stands : (s r : List ℕ) → Stands s r old wire → Stands s r new wire'
 
--- Ready with a reply: the request was sent whole, and what was received in reply to it is read as this reply, whole. The link is left open exactly where the reply keeps it and no byte was received behind it.
+-- A reply: the request was sent whole, and what was received in reply to it is read as this reply, whole. The link is left open exactly where the reply keeps it and no byte was received behind it.
 pub record Replies (old new : Exchanging) (wire wire' : WireState) (answer : Reply) : Type 0 where
   pub k : ℕ
   pub link : new.link ≡ Some k
@@ -150,19 +148,19 @@ pub record Refuses (old new : Exchanging) (wire wire' : WireState) (fault : Repl
   pub bad : reply_of received false new.limit ≡ reply.Bad why
 
 -- each answer of a poll
-abbrev pub Answers : Exchanging → Exchanging → WireState → WireState → Poll (Result Reply ExchangeFault) → Type 0
-Answers old new wire wire' Pending = Waits old new wire wire'
-Answers old new wire wire' (Ready (Ok answer)) = Replies old new wire wire' answer
-Answers old new wire wire' (Ready (Err faults.Failed)) = Fails old new wire wire'
-Answers old new wire wire' (Ready (Err (faults.Cut received))) = Cuts old new wire wire' received
-Answers old new wire wire' (Ready (Err (faults.Bad fault received))) = Refuses old new wire wire' fault received
-Answers old new wire wire' (Ready (Err faults.OutOfMemory)) = Breaks old new wire wire'
+abbrev pub Answers : Exchanging → Exchanging → WireState → WireState → Option (Result Reply ExchangeFault) → Type 0
+Answers old new wire wire' None = Waits old new wire wire'
+Answers old new wire wire' (Some (Ok answer)) = Replies old new wire wire' answer
+Answers old new wire wire' (Some (Err faults.Failed)) = Fails old new wire wire'
+Answers old new wire wire' (Some (Err (faults.Cut received))) = Cuts old new wire wire' received
+Answers old new wire wire' (Some (Err (faults.Bad fault received))) = Refuses old new wire wire' fault received
+Answers old new wire wire' (Some (Err faults.OutOfMemory)) = Breaks old new wire wire'
 
 -- What was received goes with a reply, with a part of one and with one that is refused: nothing of it is kept.
-abbrev pub HandsOver : List ℕ → Poll (Result Reply ExchangeFault) → Type 0
-HandsOver held Pending = Unit {0}
-HandsOver held (Ready (Ok answer)) = held ≡ []
-HandsOver held (Ready (Err faults.Failed)) = Unit {0}
-HandsOver held (Ready (Err (faults.Cut received))) = held ≡ []
-HandsOver held (Ready (Err (faults.Bad fault received))) = held ≡ []
-HandsOver held (Ready (Err faults.OutOfMemory)) = Unit {0}
+abbrev pub HandsOver : List ℕ → Option (Result Reply ExchangeFault) → Type 0
+HandsOver held None = Unit {0}
+HandsOver held (Some (Ok answer)) = held ≡ []
+HandsOver held (Some (Err faults.Failed)) = Unit {0}
+HandsOver held (Some (Err (faults.Cut received))) = held ≡ []
+HandsOver held (Some (Err (faults.Bad fault received))) = held ≡ []
+HandsOver held (Some (Err faults.OutOfMemory)) = Unit {0}

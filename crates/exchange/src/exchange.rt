@@ -12,7 +12,6 @@ use crate::buffer::ReceiveBuffer;
 use crate::fault::ExchangeFault;
 use crate::incoming::{Conclusion, Incoming};
 use crate::receiving::{Received, receive};
-use futures::task::Poll;
 use http_wire::{Reply, laws, write_request};
 use std::alloc::Global;
 use std::marker::Model;
@@ -26,15 +25,15 @@ const BESIDE: usize = 64;
 /// Where an exchange stands.
 #[derive(Clone, Copy)]
 pub(crate) enum Standing {
-    /// It was not ready yet.
+    /// It is not over yet.
     Underway,
     /// A reply came, and the link is open and may be used again.
     Left,
-    /// It was ready, and its link, if it got one, is closed.
+    /// It is over, and its link, if it got one, is closed.
     Over,
 }
 
-/// A request for an address and the reply to it, on one link: a future that is polled by hand.
+/// A request for an address and the reply to it, on one link, which is polled until it is over.
 ///
 /// Contracts see its address, the limit of the reply's body, its link, the prefix of its request that
 /// was sent, the bytes that were received in reply, and where it stands. It holds no history of its
@@ -141,18 +140,17 @@ impl Exchange {
     /// Goes on until a call moves no byte: dials, unless it has a link, to the host and the port of
     /// its address, sends what is left of its request, and receives the reply.
     ///
-    /// `Pending` where its link stalled; what was sent so far is a prefix of the request. `Ready` with
-    /// the reply where the request was sent whole and what was received in reply is that reply, whole;
-    /// the link then stays open where `leave` gives it. `Failed` only where the wire's count of faults
-    /// rose in this poll; `Cut` where the link ended before the reply was whole; `Bad` as soon as the
-    /// bytes received have that fault. What was received goes with these three answers. Where it is
-    /// ready and `leave` gives nothing the link is closed. Each poll has the same wire, and the buffer
-    /// may be another.
+    /// `None` where its link stalled; what was sent so far is a prefix of the request. The reply where
+    /// the request was sent whole and what was received in reply is that reply, whole; the link then
+    /// stays open where `leave` gives it. `Failed` only where the wire's count of faults rose in this
+    /// poll; `Cut` where the link ended before the reply was whole; `Bad` as soon as the bytes received
+    /// have that fault. What was received goes with these three answers. Where it is over and `leave`
+    /// gives nothing the link is closed. Each poll has the same wire, and the buffer may be another.
     pub fn poll<W: Dial>(
         &mut self,
         wire: &mut W,
         buffer: &mut ReceiveBuffer,
-    ) -> Poll<Result<Reply, ExchangeFault>>
+    ) -> Option<Result<Reply, ExchangeFault>>
         requires underway { self.old.standing ≡ Standing.Underway }
         requires link { IsLinked self.old.link (W.state wire.old) }
         ensures touches { Touches self.old self.new (W.state wire.old) (W.state wire.new) }
@@ -166,7 +164,7 @@ impl Exchange {
             Ok(link) => self.send(wire, buffer, link),
             Err(fault) => {
                 self.standing = Standing::Over;
-                Poll::Ready(Err(fault))
+                Some(Err(fault))
             }
         }
     }
@@ -199,7 +197,7 @@ impl Exchange {
         wire: &mut W,
         buffer: &mut ReceiveBuffer,
         link: u64,
-    ) -> Poll<Result<Reply, ExchangeFault>>
+    ) -> Option<Result<Reply, ExchangeFault>>
         requires underway { self.old.standing ≡ Standing.Underway }
         requires link { self.old.link ≡ Some link }
         requires is_open { ((W.state wire.old).links link).is_open ≡ true }
@@ -212,7 +210,7 @@ impl Exchange {
         laws::what_is_read_is_given();
         match send_rest(wire, link, self.request.as_slice(), &mut self.sent) {
             Halt::Done => self.receive_reply(wire, buffer, link),
-            Halt::NotYet => Poll::Pending,
+            Halt::NotYet => None,
             Halt::Failed => self.break_off(wire, link, ExchangeFault::Failed),
             Halt::OutOfMemory => self.break_off(wire, link, ExchangeFault::OutOfMemory),
         }
@@ -224,7 +222,7 @@ impl Exchange {
         wire: &mut W,
         buffer: &mut ReceiveBuffer,
         link: u64,
-    ) -> Poll<Result<Reply, ExchangeFault>>
+    ) -> Option<Result<Reply, ExchangeFault>>
         requires underway { self.old.standing ≡ Standing.Underway }
         requires link { self.old.link ≡ Some link }
         requires sent { self.old.sent ≡ request_of self.old.address }
@@ -246,7 +244,7 @@ impl Exchange {
                 self.standing = Standing::Over;
                 self.conclude(wire, link, true)
             }
-            Received::NotYet => Poll::Pending,
+            Received::NotYet => None,
             Received::Failed => self.break_off(wire, link, ExchangeFault::Failed),
             Received::OutOfMemory => self.break_off(wire, link, ExchangeFault::OutOfMemory),
         }
@@ -258,16 +256,16 @@ impl Exchange {
         wire: &mut W,
         link: u64,
         fault: ExchangeFault,
-    ) -> Poll<Result<Reply, ExchangeFault>>
+    ) -> Option<Result<Reply, ExchangeFault>>
         requires is_open { ((W.state wire.old).links link).is_open ≡ true }
-        ensures result { result ≡ Poll.Ready (Err fault) }
+        ensures result { result ≡ Some (Err fault) }
         ensures over { self.new ≡ record self.old { standing = Standing.Over } }
         ensures closes { Closes link (W.state wire.old) (W.state wire.new) }
         ensures allowed { SameAllowed (W.allows wire.old) (W.allows wire.new) }
     {
         self.standing = Standing::Over;
         wire.close(link);
-        Poll::Ready(Err(fault))
+        Some(Err(fault))
     }
 
     /// Leaves the link open, or closes it.
@@ -293,7 +291,7 @@ impl Exchange {
         wire: &mut W,
         link: u64,
         ended: bool,
-    ) -> Poll<Result<Reply, ExchangeFault>>
+    ) -> Option<Result<Reply, ExchangeFault>>
         requires is_open { ((W.state wire.old).links link).is_open ≡ true }
         requires ended { is_open (after_bytes self.old.limit begun self.old.received) ≡ ended }
         ensures address { self.new.address ≡ self.old.address }
@@ -312,15 +310,15 @@ impl Exchange {
         match incoming.conclude() {
             Conclusion::Whole(reply) => {
                 self.settle(wire, link, may_stay(reply.keeps, spare));
-                Poll::Ready(Ok(reply))
+                Some(Ok(reply))
             }
             Conclusion::Cut(received) => {
                 self.settle(wire, link, false);
-                Poll::Ready(Err(ExchangeFault::Cut { received }))
+                Some(Err(ExchangeFault::Cut { received }))
             }
             Conclusion::Refused(fault, received) => {
                 self.settle(wire, link, false);
-                Poll::Ready(Err(ExchangeFault::Bad { fault, received }))
+                Some(Err(ExchangeFault::Bad { fault, received }))
             }
         }
     }

@@ -6,8 +6,8 @@
 //! ```rust
 //! while polls < most {
 //!     match exchange.poll(wire, buffer) {
-//!         Poll::Ready(answer) => return Some(answer),
-//!         Poll::Pending => polls += 1,
+//!         Some(answer) => return Some(answer),
+//!         None => polls += 1,
 //!     }
 //! }
 //! None

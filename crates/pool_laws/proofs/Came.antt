@@ -3,7 +3,6 @@ use Rattle.std.proofs.Common.{ℕ, ◌≡◌, ◌+◌, ◌<◌, ◌++◌, List, 
 use Rattle.std.specs.List.{AllByRecursion}
 use Rattle.std.specs.List.Sorted.{IsPermutation}
 use Rattle.std.proofs.lemmas.List.Sorted.{IsPermutation-refl, IsPermutation-trans}
-use Rattle.futures.specs.declared.task.Poll.TheVariants as poll
 use Rattle.tpf_base.specs.Addresses.{Address}
 use Rattle.tpf_base.specs.Links.{WireState, OpensGiven}
 use Rattle.http_wire.specs.declared.message.Reply.{Reply}
@@ -35,7 +34,7 @@ pub record CameBy (start : ℕ → Type 0) (limit ticket : ℕ) (address : Addre
   pub from : WireState
   pub to : WireState
   pub follows : Follows limit from f.exchange
-  pub poll : Polls (poll.Ready (Ok answer)) f from to
+  pub poll : Polls (Some (Ok answer)) f from to
   pub given : (k : ℕ) → poll.now.link ≡ Some k → k < to.given
   pub old : Pooled
   pub new : Pooled

@@ -3,8 +3,6 @@ use Rattle.std.proofs.Common.{ℕ, ◌≡◌, ◌+◌, ◌≤◌, ◌⊎◌, inl
 use Rattle.std.specs.List.{AllByRecursion}
 use Rattle.std.specs.List.Sorted.{IsPermutation}
 use Rattle.std.proofs.lemmas.List.Sorted.{IsPermutation-refl, IsPermutation-trans}
-use Rattle.futures.specs.declared.task.Poll.{Poll}
-use Rattle.futures.specs.declared.task.Poll.TheVariants as poll
 use Rattle.tpf_base.specs.Addresses.{Address}
 use Rattle.tpf_base.specs.Causes.{Rose}
 use Rattle.tpf_base.specs.HttpReply.{reply_of}
@@ -183,7 +181,7 @@ module _ (one : AuthoritiesAreHostsAndPorts) where
 lost_ask : (f : Flight) (p q : Pooled) (was : List Ask) → q ≡ p → IsPermutation was (held_with f p) → IsPermutation was (ask_flying f ∷ held q)
 lost_ask f p q was e h = subst (λ (x : Pooled). IsPermutation was (ask_flying f ∷ held x)) (sym e) (IsPermutation-trans _ _ _ h (held_out f p))
 
-module _ (limit : ℕ) (f : Flight) (a b : WireState) (s : Follows limit a f.exchange) (answer : Poll (Result Reply ExchangeFault)) (h : Polls answer f a b) (received : List ℕ) (e : Ends f.exchange h.now a b received) where
+module _ (limit : ℕ) (f : Flight) (a b : WireState) (s : Follows limit a f.exchange) (answer : Option (Result Reply ExchangeFault)) (h : Polls answer f a b) (received : List ℕ) (e : Ends f.exchange h.now a b received) where
   -- what was received in reply to the request of an exchange that is over
   abbrev pub over_on : RepliedOn limit f.exchange.address received b
   over_on =
@@ -206,7 +204,7 @@ flown_cause (faults.Reply fault received) old q a b limit x =
       loses = record {
         ask = ask_flying x.f;
         others = lost_ask x.f x.p q (held old) x.to.1 x.others;
-        on = over_on old.limit x.f x.from b (subst (λ (n : ℕ). Follows n x.from x.f.exchange) same x.follows) (poll.Ready (Err (exchanges.Bad fault received))) x.to.0 received r.ends;
+        on = over_on old.limit x.f x.from b (subst (λ (n : ℕ). Follows n x.from x.f.exchange) same x.follows) (Some (Err (exchanges.Bad fault received))) x.to.0 received r.ends;
         given = polled_given x.f.exchange.address x.f.exchange.link x.to.0.now.link x.from b x.to.0.touches.link x.given x.linked r.ends.k r.ends.link;
         fresh = λ n h. polled_above n x.f.exchange x.to.0.now (held_on x.p) x.from b r.ends.k x.to.0.touches r.ends.link (x.fresh n h);
       };
@@ -221,7 +219,7 @@ flown_cause (faults.Cut received) old q a b limit x =
       loses = record {
         ask = ask_flying x.f;
         others = lost_ask x.f x.p q (held old) x.to.2 x.others;
-        on = over_on old.limit x.f x.from b (subst (λ (n : ℕ). Follows n x.from x.f.exchange) same x.follows) (poll.Ready (Err (exchanges.Cut received))) x.to.0 received r.ends;
+        on = over_on old.limit x.f x.from b (subst (λ (n : ℕ). Follows n x.from x.f.exchange) same x.follows) (Some (Err (exchanges.Cut received))) x.to.0 received r.ends;
         given = polled_given x.f.exchange.address x.f.exchange.link x.to.0.now.link x.from b x.to.0.touches.link x.given x.linked r.ends.k r.ends.link;
         fresh = λ n h. polled_above n x.f.exchange x.to.0.now (held_on x.p) x.from b r.ends.k x.to.0.touches r.ends.link (x.fresh n h);
       };

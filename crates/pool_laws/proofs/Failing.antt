@@ -1,10 +1,9 @@
 -- Each failure of an ask is a rise of the wire's faults or the end of a link.
 use Rattle.std.proofs.Common.{ℕ, zero, suc, ◌≡◌, ◌≢◌, ◌+◌, ◌-◌, ◌<◌, ◌≤◌, ◌==◌, ◌⊎◌, inl, inr, ◌++◌, List, [], ◌∷◌, Option, Some, None, Bool, true, false, Result, Ok, Err, refl, sym, ◌∙◌, ap, subst, arith, if◌then◌else◌}
-use Rattle.std.specs.Prelude.{IfErr}
+use Rattle.std.specs.Prelude.{IfErr, Option, Some, None}
 use Rattle.std.specs.List.{AllByRecursion}
 use Rattle.std.proofs.lemmas.Bool.{cases_lt, cases_eq}
 use Rattle.std.proofs.lemmas.Bool.Decides.{eqb_tells}
-use Rattle.futures.specs.declared.task.Poll.TheVariants as poll
 use Rattle.tpf_base.specs.Addresses.{Address}
 use Rattle.tpf_base.specs.Causes.{Rose}
 use Rattle.tpf_base.specs.Links.{Link, WireState, OpensGiven}
@@ -285,7 +284,7 @@ module _ (since : WireState) where
     own : FailsBy (failed + 1) since.faults b.faults ended
     lists : Lists b.faults ended p
 
-  poll_failed : (why : ExchangeFault) (ended : ℕ) (f : Flight) (p : Pooled) (a b : WireState) → OpensGiven a → (h : Polls (poll.Ready (Err why)) f a b) → IsFailure why → Out ended f p a → Failed f.failed p b
+  poll_failed : (why : ExchangeFault) (ended : ℕ) (f : Flight) (p : Pooled) (a b : WireState) → OpensGiven a → (h : Polls (Some (Err why)) f a b) → IsFailure why → Out ended f p a → Failed f.failed p b
   poll_failed exchanges.Failed ended f p a b g h is s = record {
     ended = ended;
     free = less_free ended h.now.link (held_on p) b (poll_free ended f.exchange h.now (held_on p) a b h.touches s.free);
@@ -296,7 +295,7 @@ module _ (since : WireState) where
       let e = h.answers.ends in
       record {
         ended = ended + 1;
-        free = cut_free ended f.exchange h.now (held_on p) a b e.k h.touches e.link (own_link (poll.Ready (Err (exchanges.Cut received))) f p a b g s.owns h e.k e.link)
+        free = cut_free ended f.exchange h.now (held_on p) a b e.k h.touches e.link (own_link (Some (Err (exchanges.Cut received))) f p a b g s.owns h e.k e.link)
             (polled_given f.exchange.address f.exchange.link h.now.link a b h.touches.link g (linked_open f.exchange.link (held_on p) a s.owns.owned) e.k e.link) h.answers.ended s.free;
         own = fails_ended f.failed since.faults a.faults b.faults ended h.touches.later s.own;
         lists = lists_later a.faults b.faults ended (ended + 1) p h.touches.later (omega arith) s.lists;

@@ -1,12 +1,10 @@
 -- What was sent and received on the links that a pool holds, after each call on a link.
 use Rattle.std.proofs.Common.{ℕ, ◌≡◌, ◌<◌, ◌==◌, ◌⊎◌, inl, inr, ◌++◌, List, [], ◌∷◌, length, Option, Some, None, Bool, true, false, Result, Ok, Err, refl, sym, ◌∙◌, ap, ap₂, subst, arith, append_assoc, append-nil, if◌then◌else◌}
-use Rattle.std.specs.Prelude.{◌&&◌}
+use Rattle.std.specs.Prelude.{◌&&◌, Option, Some, None}
 use Rattle.std.specs.List.{AllByRecursion, flat_map}
 use Rattle.std.proofs.lemmas.Bool.{and_parts}
 use Rattle.std.proofs.lemmas.Bool.Decides.{eqb_tells}
 use Rattle.std.proofs.lemmas.List.{map-append}
-use Rattle.futures.specs.declared.task.Poll.{Poll}
-use Rattle.futures.specs.declared.task.Poll.TheVariants as poll
 use Rattle.tpf_base.specs.Addresses.{Address, authority_of}
 use Rattle.tpf_base.specs.HttpReply.{Whole, reply_of}
 use Rattle.tpf_base.specs.Links.{Link, Nature, WireState, OpensGiven, told_by}
@@ -111,7 +109,7 @@ shut_told (Some i) p a b none s h = closed_told i p a b (none i refl) s h
 
 -- ---- a poll
 
-module _ (answer : Poll (Result Reply ExchangeFault)) (f : Flight) (p : Pooled) (a b : WireState) (given : OpensGiven a) (owns : Owns f p a) (h : Polls answer f a b) where
+module _ (answer : Option (Result Reply ExchangeFault)) (f : Flight) (p : Pooled) (a b : WireState) (given : OpensGiven a) (owns : Owns f p a) (h : Polls answer f a b) where
   -- no other holds the link
   pub own_link : (k : ℕ) → h.now.link ≡ Some k → held_on p k ≡ 0
   own_link = rest_none f.exchange.address f.exchange.link h.now.link a b h.touches.link given (held_on p) owns.owned
@@ -137,7 +135,7 @@ pub polled_address : (old new : Exchanging) (a b : WireState) → Touches old ne
 polled_address old new a b t h = subst IsWebAddress (sym t.address) h
 
 -- an exchange that goes on follows the same replies
-goes_on : (limit : ℕ) (f : Flight) (a b : WireState) (h : Polls poll.Pending f a b) → Follows limit a f.exchange → Follows limit b h.now
+goes_on : (limit : ℕ) (f : Flight) (a b : WireState) (h : Polls None f a b) → Follows limit a f.exchange → Follows limit b h.now
 goes_on limit f a b h s = record {
   is_address = polled_address f.exchange h.now a b h.touches s.is_address;
   is_limit = h.touches.limit ∙ s.is_limit;
@@ -255,15 +253,15 @@ is_pool p q b e h = subst (λ (x : Pooled). AnswersSoFar x b) (sym e) h
 pub flight_follows : (result : Result Polled PoolFault) (f : Flight) (p q : Pooled) (a b : WireState) → OpensGiven a → Owns f p a → Follows p.limit a f.exchange → AnswersSoFar p a → FlightTo result f p q a b → AnswersSoFar q b
 flight_follows (Ok polls.Pending) f p q a b g o s h t =
     is_pool (record p { polled = p.polled ++ (record f { exchange = t.0.now }) ∷ [] }) q b t.1
-    (with_flight p (record f { exchange = t.0.now }) b (goes_on p.limit f a b t.0 s) (rest_told poll.Pending f p a b g o t.0 h))
+    (with_flight p (record f { exchange = t.0.now }) b (goes_on p.limit f a b t.0 s) (rest_told None f p a b g o t.0 h))
 flight_follows (Ok (polls.Came ticket address answer)) f p q a b g o s h t =
     let now = t.1.now in
     settles_follows (left_link t.1.now) t.1.now.address p q t.0 b
-    (λ k e. own_link (poll.Ready (Ok answer)) f p a t.0 g o t.1 k (left_is t.1.now.standing t.1.now.link k e).1)
+    (λ k e. own_link (Some (Ok answer)) f p a t.0 g o t.1 k (left_is t.1.now.standing t.1.now.link k e).1)
     (λ k e. kept_follows p.limit f.exchange t.1.now a t.0 answer k t.1.touches t.1.answers e s)
-    (rest_told (poll.Ready (Ok answer)) f p a t.0 g o t.1 h) t.3
+    (rest_told (Some (Ok answer)) f p a t.0 g o t.1 h) t.3
 flight_follows (Ok polls.Failed) f p q a b g o s h t =
-    is_pool _ q b t.4 (with_waiting p _ b (polled_address f.exchange t.1.now a b t.1.touches s.is_address) (rest_told (poll.Ready (Err t.0)) f p a b g o t.1 h))
+    is_pool _ q b t.4 (with_waiting p _ b (polled_address f.exchange t.1.now a b t.1.touches s.is_address) (rest_told (Some (Err t.0)) f p a b g o t.1 h))
 flight_follows (Err faults.Exchange) f p q a b g o s h t = is_pool p q b t.2 (rest_told _ f p a b g o t.0 h)
 flight_follows (Err (faults.Cut received)) f p q a b g o s h t = is_pool p q b t.2 (rest_told _ f p a b g o t.0 h)
 flight_follows (Err (faults.Reply fault received)) f p q a b g o s h t = is_pool p q b t.1 (rest_told _ f p a b g o t.0 h)

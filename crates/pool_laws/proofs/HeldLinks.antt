@@ -2,7 +2,6 @@
 use Rattle.std.proofs.Common.{ℕ, ◌≡◌, ◌+◌, ◌⊎◌, inl, inr, ◌++◌, List, [], ◌∷◌, map, Option, Some, None, Bool, true, false, Result, Ok, Err, refl, sym, ◌∙◌, ap, subst, arith, if◌then◌else◌}
 use Rattle.std.specs.List.{AllByRecursion, Contains}
 use Rattle.std.proofs.lemmas.List.Elements.{All-contains_itself, recursion_from_All}
-use Rattle.futures.specs.declared.task.Poll.TheVariants as poll
 use Rattle.tpf_base.specs.Addresses.{Address, authority_of}
 use Rattle.tpf_base.specs.declared.fault.Fault.{Fault}
 use Rattle.tpf_base.specs.declared.wire.Ready.{Ready}
@@ -78,7 +77,7 @@ all_held asks =
 ends_closed : (old new : Exchanging) (a b : WireState) (received : List ℕ) → Ends old new a b received → ClosedOn new.link b
 ends_closed old new a b received e = subst (λ (o : Option ℕ). ClosedOn o b) (sym e.link) e.closed
 
-failure_closed : (why : ExchangeFault) (old new : Exchanging) (a b : WireState) → IsFailure why → Answers old new a b (poll.Ready (Err why)) → ClosedOn new.link b
+failure_closed : (why : ExchangeFault) (old new : Exchanging) (a b : WireState) → IsFailure why → Answers old new a b (Some (Err why)) → ClosedOn new.link b
 failure_closed exchanges.Failed old new a b is h = h.breaks.closed
 failure_closed (exchanges.Cut received) old new a b is h = ends_closed old new a b received h.ends
 failure_closed (exchanges.Bad fault received) old new a b is h = absurd is

@@ -1,13 +1,11 @@
 -- Over a steady wire no step provokes a fault, unless an exchange hangs.
 use Rattle.std.proofs.Common.{ℕ, ◌≡◌, ◌+◌, ◌<◌, ◌≤◌, ◌⊎◌, inl, inr, ◌++◌, List, [], ◌∷◌, map, length, length-append, Option, Some, None, true, false, Result, Ok, Err, refl, sym, ◌∙◌, ap, ap₂, subst, arith, append-nil}
-use Rattle.std.specs.Prelude.{◌^◌, min, IfOk}
+use Rattle.std.specs.Prelude.{◌^◌, min, IfOk, Option, Some, None}
 use Rattle.std.specs.List.{AllByRecursion, Contains}
 use Rattle.std.proofs.lemmas.Bool.{cases_lt, cases_eq}
 use Rattle.std.proofs.lemmas.List.{length-map}
 use Rattle.std.proofs.lemmas.List.Elements.{All-contains, All-from_recursion}
 use Rattle.std.proofs.lemmas.List.Sorted.{length_permutation}
-use Rattle.futures.specs.declared.task.Poll.{Poll}
-use Rattle.futures.specs.declared.task.Poll.TheVariants as poll
 use Rattle.tpf_base.specs.Addresses.{Address, authority_of}
 use Rattle.tpf_base.specs.HttpReply.{reply_of}
 use Rattle.tpf_base.specs.declared.fault.Fault.{Fault}
@@ -332,7 +330,7 @@ module _ (since : WireState) (steady : since.nature.steady ≡ true) where
   lists_as : (p q : Pooled) (a : WireState) → q ≡ p → Lists p a → Lists q a
   lists_as p q a e h = subst (λ (x : Pooled). Lists x a) (sym e) h
 
-  module _ (answer : Poll (Result Reply ExchangeFault)) (f : Flight) (p : Pooled) (a b : WireState) (g : OpensGiven a) (o : Owns f p a) (h : Polls answer f a b) where
+  module _ (answer : Option (Result Reply ExchangeFault)) (f : Flight) (p : Pooled) (a b : WireState) (g : OpensGiven a) (o : Owns f p a) (h : Polls answer f a b) where
     others_same : (k : ℕ) → 0 < held_on p k → b.links k ≡ a.links k
     others_same k l = h.touches.others k (λ e. off (held_on p k) k (own_link answer f p a b g o h k e) l)
 
@@ -356,14 +354,14 @@ module _ (since : WireState) (steady : since.nature.steady ≡ true) where
   flying_more : (xs ys : List Flight) (g : Flight) → length ((xs ++ g ∷ []) ++ ys) ≡ length (xs ++ ys) + 1
   flying_more xs ys g = omega (arith, length-append (xs ++ g ∷ []) ys, length-append xs (g ∷ []), length-append xs ys)
 
-  pending_moves : (f : Flight) (p : Pooled) (a b : WireState) → a.nature ≡ since.nature → OpensGiven a → Owns f p a → (h : Polls poll.Pending f a b) → MovesOut f p a → MovesFirst (record p { polled = p.polled ++ (record f { exchange = h.now }) ∷ [] }) b
+  pending_moves : (f : Flight) (p : Pooled) (a b : WireState) → a.nature ≡ since.nature → OpensGiven a → Owns f p a → (h : Polls None f a b) → MovesOut f p a → MovesFirst (record p { polled = p.polled ++ (record f { exchange = h.now }) ∷ [] }) b
   pending_moves f p a b n g o h (OutMoved e) = Moved (omega (arith, e, h.touches.idle))
   pending_moves f p a b n g o h (OutAwake w s) =
       let w' = h.answers in
       let same = kept_link f.exchange.address f.exchange.link h.now.link s.k w'.k a b s.link w'.link h.touches.link in
       Moved (w'.woken (is_steady a n) (subst (λ (x : ℕ). (a.links x).woken ≡ true) same (awake_moved f.exchange s.k a s.link w)) (subst (λ (x : ℕ). Awaits f.exchange (a.links x)) same s.awaits) (s.link ∙ ap (λ (x : ℕ). Some x) same))
   pending_moves f p a b n g o h (OutOther w) =
-      let now = one_same (in_flight p) a b (flying_same poll.Pending f p a b g o h) w in
+      let now = one_same (in_flight p) a b (flying_same None f p a b g o h) w in
       Awake (elim (one_split b p.polled p.due now) [
         | inl i ↦ one_front b (p.polled ++ (record f { exchange = h.now }) ∷ []) p.due (one_front b p.polled ((record f { exchange = h.now }) ∷ []) i)
         | inr i ↦ one_behind b (p.polled ++ (record f { exchange = h.now }) ∷ []) p.due i
@@ -374,7 +372,7 @@ module _ (since : WireState) (steady : since.nature.steady ≡ true) where
       fewer : (n k l : ℕ) → k ≡ n + 1 → n + 1 < l → k < l
       fewer n k l e h = omega (arith, e, h)
 
-  pending_stalled : (f : Flight) (a b : WireState) (h : Polls poll.Pending f a b) → IsStalled b h.now
+  pending_stalled : (f : Flight) (a b : WireState) (h : Polls None f a b) → IsStalled b h.now
   pending_stalled f a b h = record { k = h.answers.k; link = h.answers.link; awaits = h.answers.awaits; ripe = h.answers.ripe; more = h.answers.more }
 
   -- ---- between two turns
@@ -405,7 +403,7 @@ module _ (since : WireState) (steady : since.nature.steady ≡ true) where
 
   flight_goes : (result : Result Polled PoolFault) (f : Flight) (p q : Pooled) (a b : WireState) → is_end result ≡ false → OpensGiven a → Out f p a → FlightTo result f p q a b → Going q b
   flight_goes (Ok polls.Pending) f p q a b e g o t =
-      let l = lists_same p a b (others_same poll.Pending f p a b g o.owns t.0) o.lists in
+      let l = lists_same p a b (others_same None f p a b g o.owns t.0) o.lists in
       going_as (record p { polled = p.polled ++ (record f { exchange = t.0.now }) ∷ [] }) q b t.1 (record {
         is_nature = t.0.touches.nature ∙ o.is_nature;
         spares = flight_spares (Ok polls.Pending) f p q a b o.is_nature o.spares t;
@@ -418,7 +416,7 @@ module _ (since : WireState) (steady : since.nature.steady ≡ true) where
         moves = pending_moves f p a b o.is_nature g o.owns t.0 o.moves;
       })
   flight_goes (Ok polls.Failed) f p q a b e g o t =
-      let l = lists_same p a b (others_same (poll.Ready (Err t.0)) f p a b g o.owns t.1) o.lists in
+      let l = lists_same p a b (others_same (Some (Err t.0)) f p a b g o.owns t.1) o.lists in
       going_as _ q b t.4 (record {
         is_nature = t.1.touches.nature ∙ o.is_nature;
         spares = flight_spares (Ok polls.Failed) f p q a b o.is_nature o.spares t;
@@ -675,9 +673,9 @@ module _ (since : WireState) (steady : since.nature.steady ≡ true) where
       let same = settle_flying (left_link t.1.now) t.1.now.address p q t.0 b t.3 in
       record {
         lists = settle_lists (left_link t.1.now) t.1.now.address p q t.0 b
-            (λ k e. own_link (poll.Ready (Ok answer)) f p a t.0 g o.owns t.1 k (left_is t.1.now.standing t.1.now.link k e).1)
+            (λ k e. own_link (Some (Ok answer)) f p a t.0 g o.owns t.1 k (left_is t.1.now.standing t.1.now.link k e).1)
             (λ k e. let l = left_is t.1.now.standing t.1.now.link k e in subst (λ (x : ℕ). (t.0.links x).stalled ≡ None) (one_value t.1.now.link r.link l.1) (r.is_open l.0).1)
-            t.3 (lists_same p a t.0 (others_same (poll.Ready (Ok answer)) f p a t.0 g o.owns t.1) o.lists);
+            t.3 (lists_same p a t.0 (others_same (Some (Ok answer)) f p a t.0 g o.owns t.1) o.lists);
         room = omega (arith, ap (λ (l : List Flight). length l) same.0, same.1, o.room);
         moves = Moved (same.2 ∙ r.idle);
       }

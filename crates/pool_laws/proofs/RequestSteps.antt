@@ -3,8 +3,6 @@ use Rattle.std.proofs.Common.{ℕ, ◌≡◌, ◌+◌, ◌-◌, ◌<◌, ◌≤�
 use Rattle.std.specs.List.{AllByRecursion}
 use Rattle.std.specs.List.Sorted.{IsPermutation}
 use Rattle.std.proofs.lemmas.List.Sorted.{IsPermutation-refl, IsPermutation-map, IsPermutation-trans, sum_by-IsPermutation}
-use Rattle.futures.specs.declared.task.Poll.{Poll}
-use Rattle.futures.specs.declared.task.Poll.TheVariants as poll
 use Rattle.tpf_base.specs.Addresses.{Address}
 use Rattle.tpf_base.specs.Links.{WireState, OpensGiven}
 use Rattle.http_wire.specs.declared.message.Reply.{Reply}
@@ -107,30 +105,30 @@ module _ (limit : ℕ) (since : WireState) (r : ℕ) (cap least : (Address → B
 
   -- ---- a poll
 
-  pending_known : (f : Flight) (p : Pooled) (a b : WireState) → OpensGiven a → Owns f p a → Out f p a → (h : Polls poll.Pending f a b) → K (record p { polled = p.polled ++ (record f { exchange = h.now }) ∷ [] }) b
+  pending_known : (f : Flight) (p : Pooled) (a b : WireState) → OpensGiven a → Owns f p a → Out f p a → (h : Polls None f a b) → K (record p { polled = p.polled ++ (record f { exchange = h.now }) ∷ [] }) b
   pending_known f p a b g o s h =
       let x = pending_puts limit since f a b s.all s.own h in
-      let m = moved limit since r cap least poll.Pending f p a b g o h s x in
+      let m = moved limit since r cap least None f p a b g o h s x in
       goes_on limit since r cap least f (record f { exchange = h.now }) x.gain p b x.x x.own refl refl m (record {
         answered = s.own.answered;
         are_answered = s.own.are_answered;
-        is_address = address_after limit since f a b s.all s.own poll.Pending h;
-        is_limit = is_limited limit since f a b s.all s.own poll.Pending h;
+        is_address = address_after limit since f a b s.all s.own None h;
+        is_limit = is_limited limit since f a b s.all s.own None h;
         stands = h.answers.stands (requests_for (addresses_exchanged s.own.answered)) (replies_of s.own.answered) s.own.stands;
         front = record { rest = h.answers.front.rest; is_whole = sym (request_is h.now.address) ∙ h.answers.front.is_whole };
         on = on_now h.now.link m.all s.own.answered (last_by h.now.address h.now.sent) m.low m.at (no_link h.now.link h.answers.k h.answers.link);
       })
 
   -- the ask is held no longer
-  any_known : (answer : Poll (Result Reply ExchangeFault)) (f : Flight) (p : Pooled) (a b : WireState) → OpensGiven a → Owns f p a → Out f p a → (h : Polls answer f a b) → K p b
-  any_known poll.Pending f p a b g o s h = let x = pending_puts limit since f a b s.all s.own h in over limit since r cap least f h.now.address h.now.link x.x x.own x.gain p b (moved limit since r cap least poll.Pending f p a b g o h s x)
-  any_known (poll.Ready (Ok answer)) f p a b g o s h =
-      let x = over_puts limit since f a b s.all s.own answer h in over limit since r cap least f h.now.address h.now.link x.x x.own x.gain p b (moved limit since r cap least (poll.Ready (Ok answer)) f p a b g o h s x)
-  any_known (poll.Ready (Err why)) f p a b g o s h =
-      let x = fault_puts limit since f a b s.all s.own why h in over limit since r cap least f h.now.address h.now.link x.x x.own x.gain p b (moved limit since r cap least (poll.Ready (Err why)) f p a b g o h s x)
+  any_known : (answer : Option (Result Reply ExchangeFault)) (f : Flight) (p : Pooled) (a b : WireState) → OpensGiven a → Owns f p a → Out f p a → (h : Polls answer f a b) → K p b
+  any_known None f p a b g o s h = let x = pending_puts limit since f a b s.all s.own h in over limit since r cap least f h.now.address h.now.link x.x x.own x.gain p b (moved limit since r cap least None f p a b g o h s x)
+  any_known (Some (Ok answer)) f p a b g o s h =
+      let x = over_puts limit since f a b s.all s.own answer h in over limit since r cap least f h.now.address h.now.link x.x x.own x.gain p b (moved limit since r cap least (Some (Ok answer)) f p a b g o h s x)
+  any_known (Some (Err why)) f p a b g o s h =
+      let x = fault_puts limit since f a b s.all s.own why h in over limit since r cap least f h.now.address h.now.link x.x x.own x.gain p b (moved limit since r cap least (Some (Err why)) f p a b g o h s x)
 
   -- its reply came, and the link is left
-  left_own : (answer : Reply) (f : Flight) (p : Pooled) (a b : WireState) (g : OpensGiven a) (o : Owns f p a) (s : Out f p a) (h : Polls (poll.Ready (Ok answer)) f a b) (left : h.now.standing ≡ Left)
+  left_own : (answer : Reply) (f : Flight) (p : Pooled) (a b : WireState) (g : OpensGiven a) (o : Owns f p a) (s : Out f p a) (h : Polls (Some (Ok answer)) f a b) (left : h.now.standing ≡ Left)
       → (m : Moved limit since r cap least f h.now.address h.now.link (left_puts limit since f a b s.all s.own answer h left).x (left_puts limit since f a b s.all s.own answer h left).own (left_puts limit since f a b s.all s.own answer h left).gain p b)
       → (k : ℕ) → left_link h.now ≡ Some k → OwnRequests limit since m.all b (starting h.now.address limit (Some k))
   left_own answer f p a b g o s h left m k e =
@@ -140,7 +138,7 @@ module _ (limit : ℕ) (since : WireState) (r : ℕ) (cap least : (Address → B
       record {
         answered = x.x.answered;
         are_answered = t.answered;
-        is_address = address_after limit since f a b s.all s.own (poll.Ready (Ok answer)) h;
+        is_address = address_after limit since f a b s.all s.own (Some (Ok answer)) h;
         is_limit = refl;
         stands = (t.sent_is, t.received_is);
         front = record { rest = request_for h.now.address; is_whole = refl };
@@ -151,23 +149,23 @@ module _ (limit : ℕ) (since : WireState) (r : ℕ) (cap least : (Address → B
   same_gain now was test e = let same : ◌≡◌ {A = ℕ} (cond (test now) 1 0) (cond (test was) 1 0) = ap {B = ℕ} (λ (x : Address). cond (test x) 1 0) e in omega (arith, same)
 
   -- its reply came, and was counted
-  pub came_answered : (answer : Reply) (f : Flight) (p q : Pooled) (a mid b : WireState) → OpensGiven a → Owns f p a → Out f p a → (h : Polls (poll.Ready (Ok answer)) f a mid) → Settles (left_link h.now) h.now.address p q mid b
+  pub came_answered : (answer : Reply) (f : Flight) (p q : Pooled) (a mid b : WireState) → OpensGiven a → Owns f p a → Out f p a → (h : Polls (Some (Ok answer)) f a mid) → Settles (left_link h.now) h.now.address p q mid b
       → Known limit since r cap (λ test. least test + cond (test f.exchange.address) 1 0) q b
   came_answered answer f p q a mid b g o s h t =
       fewer limit since r cap (λ test. least test + cond (test f.exchange.address) 1 0) (λ test. least test + cond (test h.now.address) 1 0) q b (λ test. same_gain h.now.address f.exchange.address test h.touches.address)
       (elim (left_or_over h.now.standing _ h.answers.left) [
         | inl left ↦ (
             let x = left_puts limit since f a mid s.all s.own answer h left in
-            let m = moved limit since r cap least (poll.Ready (Ok answer)) f p a mid g o h s x in
+            let m = moved limit since r cap least (Some (Ok answer)) f p a mid g o h s x in
             settles_known limit since r cap (λ test. least test + x.gain test) (left_link h.now) h.now.address p q mid b (answered limit since r cap least f h.now.address h.now.link x.x x.own x.gain p mid m) (left_own answer f p a mid g o s h left m) t)
         | inr done ↦ (
             let x = over_puts limit since f a mid s.all s.own answer h in
-            let m = moved limit since r cap least (poll.Ready (Ok answer)) f p a mid g o h s x in
+            let m = moved limit since r cap least (Some (Ok answer)) f p a mid g o h s x in
             settles_known limit since r cap (λ test. least test + x.gain test) (left_link h.now) h.now.address p q mid b (answered limit since r cap least f h.now.address h.now.link x.x x.own x.gain p mid m)
             (λ k e. absurd (no_left h.now.standing (left_is h.now.standing h.now.link k e).0 done)) t)
       ])
 
-  came_known : (answer : Reply) (f : Flight) (p q : Pooled) (a mid b : WireState) → OpensGiven a → Owns f p a → Out f p a → (h : Polls (poll.Ready (Ok answer)) f a mid) → Settles (left_link h.now) h.now.address p q mid b → K q b
+  came_known : (answer : Reply) (f : Flight) (p q : Pooled) (a mid b : WireState) → OpensGiven a → Owns f p a → Out f p a → (h : Polls (Some (Ok answer)) f a mid) → Settles (left_link h.now) h.now.address p q mid b → K q b
   came_known answer f p q a mid b g o s h t = fewer limit since r cap least (λ test. least test + cond (test f.exchange.address) 1 0) q b (λ test. omega arith) (came_answered answer f p q a mid b g o s h t)
 
   below_all : (f k l : ℕ) → k ≡ l → f < k → f + 1 ≤ l
@@ -179,7 +177,7 @@ module _ (limit : ℕ) (since : WireState) (r : ℕ) (cap least : (Address → B
   flight_known (Ok polls.Failed) f p q a b g o s t =
       let x = fault_puts limit since f a b s.all s.own t.0 t.1 in
       known_as limit since r cap least _ q b t.4
-      (waits_again limit since r cap least f (again (record f { exchange = t.1.now })) t.1.now.address t.1.now.link x.x x.own x.gain p b refl refl (below_all f.failed p.retries r s.few.is t.3) (moved limit since r cap least (poll.Ready (Err t.0)) f p a b g o t.1 s x))
+      (waits_again limit since r cap least f (again (record f { exchange = t.1.now })) t.1.now.address t.1.now.link x.x x.own x.gain p b refl refl (below_all f.failed p.retries r s.few.is t.3) (moved limit since r cap least (Some (Err t.0)) f p a b g o t.1 s x))
   flight_known (Err faults.Exchange) f p q a b g o s t = known_as limit since r cap least p q b t.2 (any_known _ f p a b g o s t.0)
   flight_known (Err (faults.Cut received)) f p q a b g o s t = known_as limit since r cap least p q b t.2 (any_known _ f p a b g o s t.0)
   flight_known (Err (faults.Reply fault received)) f p q a b g o s t = known_as limit since r cap least p q b t.1 (any_known _ f p a b g o s t.0)

@@ -4,8 +4,6 @@ use Rattle.std.proofs.lemmas.List.{nil_from_length}
 use Rattle.list_laws.proofs.Tests.{one_mark}
 use Rattle.std.specs.List.{AllByRecursion}
 use Rattle.std.proofs.lemmas.Bool.{cases_Bool, lt-ltb, ltb-true, ltb-false, cases_eq}
-use Rattle.futures.specs.declared.task.Poll.{Poll}
-use Rattle.futures.specs.declared.task.Poll.TheVariants as poll
 use Rattle.tpf_base.specs.Addresses.{Address}
 use Rattle.tpf_base.specs.HttpReply.{reply_of}
 use Rattle.tpf_base.specs.Links.{Link, WireState, OpensGiven}
@@ -333,7 +331,7 @@ module _ (limit : ℕ) (since : WireState) where
   -- ---- each answer of a poll
 
   module _ (f : Flight) (a b : WireState) (all : ℕ → LinkRequests) (s : Own all a f.exchange) where
-    pub address_after : (answer : Poll (Result Reply ExchangeFault)) (h : Polls answer f a b) → IsWebAddress h.now.address
+    pub address_after : (answer : Option (Result Reply ExchangeFault)) (h : Polls answer f a b) → IsWebAddress h.now.address
     address_after answer h = polled_address f.exchange h.now a b h.touches s.is_address
 
     -- the whole request, and what was received in reply
@@ -355,43 +353,43 @@ module _ (limit : ℕ) (since : WireState) where
         puts_front now.address (Some i) s.answered b t.0 t.1 s.are_answered is (front_for t.0 now.address t.2) (no_link (Some i) i refl)
         (λ k e. subst (λ (j : ℕ). Holds (b.links j).sent (requests_for (addresses_exchanged s.answered) ++ t.0) × Holds (b.links j).received (replies_of s.answered ++ t.1)) (some_is i k e) (t.3, t.4))
 
-    abbrev pub pending_puts : (h : Polls poll.Pending f a b) → Puts h.now.address h.now.link s.answered b
+    abbrev pub pending_puts : (h : Polls None f a b) → Puts h.now.address h.now.link s.answered b
     pending_puts h =
-        puts_front h.now.address h.now.link s.answered b h.now.sent h.now.received s.are_answered (address_after poll.Pending h) (front_for h.now.sent h.now.address h.answers.front) (no_link h.now.link h.answers.k h.answers.link)
+        puts_front h.now.address h.now.link s.answered b h.now.sent h.now.received s.are_answered (address_after None h) (front_for h.now.sent h.now.address h.answers.front) (no_link h.now.link h.answers.k h.answers.link)
         (λ k e. stands_at (requests_for (addresses_exchanged s.answered)) (replies_of s.answered) h.now h.now.link k b e (h.answers.stands (requests_for (addresses_exchanged s.answered)) (replies_of s.answered) s.stands))
 
-    pub fault_puts : (why : ExchangeFault) (h : Polls (poll.Ready (Err why)) f a b) → Puts h.now.address h.now.link s.answered b
-    fault_puts exchanges.Failed h = front_puts h.now h.now.link (address_after (poll.Ready (Err exchanges.Failed)) h) h.answers.breaks.front
-    fault_puts (exchanges.Cut received) h = ends_puts h.now received (address_after (poll.Ready (Err (exchanges.Cut received))) h) h.answers.ends
-    fault_puts (exchanges.Bad fault received) h = ends_puts h.now received (address_after (poll.Ready (Err (exchanges.Bad fault received))) h) h.answers.ends
-    fault_puts exchanges.OutOfMemory h = front_puts h.now h.now.link (address_after (poll.Ready (Err exchanges.OutOfMemory)) h) h.answers.front
+    pub fault_puts : (why : ExchangeFault) (h : Polls (Some (Err why)) f a b) → Puts h.now.address h.now.link s.answered b
+    fault_puts exchanges.Failed h = front_puts h.now h.now.link (address_after (Some (Err exchanges.Failed)) h) h.answers.breaks.front
+    fault_puts (exchanges.Cut received) h = ends_puts h.now received (address_after (Some (Err (exchanges.Cut received))) h) h.answers.ends
+    fault_puts (exchanges.Bad fault received) h = ends_puts h.now received (address_after (Some (Err (exchanges.Bad fault received))) h) h.answers.ends
+    fault_puts exchanges.OutOfMemory h = front_puts h.now h.now.link (address_after (Some (Err exchanges.OutOfMemory)) h) h.answers.front
 
-    pub replied_at : (answer : Reply) (h : Polls (poll.Ready (Ok answer)) f a b) → (k : ℕ) → h.now.link ≡ Some k
+    pub replied_at : (answer : Reply) (h : Polls (Some (Ok answer)) f a b) → (k : ℕ) → h.now.link ≡ Some k
         → Holds (b.links k).sent (requests_for (addresses_exchanged s.answered) ++ request_for h.now.address) × Holds (b.links k).received (replies_of s.answered ++ h.answers.received)
     replied_at answer h =
         let r = h.answers in
         whole_at h.now.address h.now.link r.k r.received r.link (r.sent_is (requests_for (addresses_exchanged s.answered)) (replies_of s.answered) s.stands) (r.received_is (requests_for (addresses_exchanged s.answered)) (replies_of s.answered) s.stands)
 
-    pub is_limited : (answer : Poll (Result Reply ExchangeFault)) (h : Polls answer f a b) → h.now.limit ≡ limit
+    pub is_limited : (answer : Option (Result Reply ExchangeFault)) (h : Polls answer f a b) → h.now.limit ≡ limit
     is_limited answer h = h.touches.limit ∙ s.is_limit
 
-    abbrev pub over_puts : (answer : Reply) (h : Polls (poll.Ready (Ok answer)) f a b) → Puts h.now.address h.now.link s.answered b
+    abbrev pub over_puts : (answer : Reply) (h : Polls (Some (Ok answer)) f a b) → Puts h.now.address h.now.link s.answered b
     over_puts answer h =
         let r = h.answers in
-        puts_reply h.now.address h.now.link s.answered b r.received s.are_answered (address_after (poll.Ready (Ok answer)) h) (no_link h.now.link r.k r.link)
+        puts_reply h.now.address h.now.link s.answered b r.received s.are_answered (address_after (Some (Ok answer)) h) (no_link h.now.link r.k r.link)
         (λ k e. record {
           body = answer.body;
           n = r.n;
           keeps = answer.keeps;
           at_end = r.at_end;
-          whole = ap (λ (n : ℕ). reply_of r.received r.at_end n) (sym (is_limited (poll.Ready (Ok answer)) h)) ∙ r.whole;
+          whole = ap (λ (n : ℕ). reply_of r.received r.at_end n) (sym (is_limited (Some (Ok answer)) h)) ∙ r.whole;
           ended = λ end. subst (λ (j : ℕ). Holds (b.links j).ended true) (one_value h.now.link r.link e) (r.ended end).0;
         })
         (replied_at answer h)
 
-    abbrev pub left_puts : (answer : Reply) (h : Polls (poll.Ready (Ok answer)) f a b) → h.now.standing ≡ Left → Puts h.now.address h.now.link s.answered b
+    abbrev pub left_puts : (answer : Reply) (h : Polls (Some (Ok answer)) f a b) → h.now.standing ≡ Left → Puts h.now.address h.now.link s.answered b
     left_puts answer h left =
         let r = h.answers in
         puts_answer h.now.address h.now.link s.answered b r.received s.are_answered (no_link h.now.link r.k r.link)
-        (record { is_address = address_after (poll.Ready (Ok answer)) h; body = answer.body; keeps = answer.keeps; whole = kept_reply limit f.exchange h.now a b answer (is_limited (poll.Ready (Ok answer)) h) r left })
+        (record { is_address = address_after (Some (Ok answer)) h; body = answer.body; keeps = answer.keeps; whole = kept_reply limit f.exchange h.now a b answer (is_limited (Some (Ok answer)) h) r left })
         (replied_at answer h)

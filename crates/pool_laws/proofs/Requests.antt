@@ -2,7 +2,6 @@
 use Rattle.std.proofs.Common.{ℕ, ◌≡◌, ◌+◌, ◌-◌, ◌<◌, ◌≤◌, ◌⊎◌, inl, inr, ◌++◌, Bool, cond, List, [], ◌∷◌, count_by, Option, Some, None, Result, refl, sym, ◌∙◌, ap, subst, arith}
 use Rattle.std.specs.List.{AllByRecursion}
 use Rattle.std.proofs.lemmas.Bool.{cases_lt, cases_eq}
-use Rattle.futures.specs.declared.task.Poll.{Poll}
 use Rattle.tpf_base.specs.Addresses.{Address, authority_of}
 use Rattle.tpf_base.specs.Links.{WireState, OpensGiven}
 use Rattle.tpf_base.specs.Calls.{Closes}
@@ -93,7 +92,7 @@ module _ (limit : ℕ) (since : WireState) (r : ℕ) (cap least : (Address → B
   link_low address None None a b all answered last l later on k e = cc
   link_low address None (Some i) a b all answered last l later on k e = let same : i ≡ k = cc in omega (arith, same, l.0, later)
 
-  module _ (answer : Poll (Result Reply ExchangeFault)) (f : Flight) (p : Pooled) (a b : WireState) (g : OpensGiven a) (o : Owns f p a) (h : Polls answer f a b) (s : Apart f p a) (x : Puts limit since h.now.address h.now.link s.own.answered b) where
+  module _ (answer : Option (Result Reply ExchangeFault)) (f : Flight) (p : Pooled) (a b : WireState) (g : OpensGiven a) (o : Owns f p a) (h : Polls answer f a b) (s : Apart f p a) (x : Puts limit since h.now.address h.now.link s.own.answered b) where
     others_told : (k : ℕ) → 0 < held_on p k → SameTold (a.links k) (b.links k)
     others_told k l = told_same (a.links k) (b.links k) (h.touches.others k (λ e. off (held_on p k) k (own_link answer f p a b g o h k e) l))
 

@@ -1,8 +1,7 @@
 -- Each failure of an ask is a rise of the wire's faults.
 use Rattle.std.proofs.Common.{ℕ, ◌≡◌, ◌+◌, ◌<◌, ◌≤◌, ◌⊎◌, inl, inr, ◌++◌, List, [], ◌∷◌, map, length, length-append, Option, true, false, Result, Ok, Err, refl, sym, ◌∙◌, ap, ap₂, subst, arith}
-use Rattle.std.specs.Prelude.{◌^◌, IfErr}
+use Rattle.std.specs.Prelude.{◌^◌, IfErr, Option, Some}
 use Rattle.std.specs.List.{AllByRecursion}
-use Rattle.futures.specs.declared.task.Poll.TheVariants as poll
 use Rattle.tpf_base.specs.Addresses.{Address}
 use Rattle.tpf_base.specs.Causes.{Rose, RoseBy}
 use Rattle.tpf_base.specs.HttpReply as reply
@@ -243,7 +242,7 @@ module _ (allows : List ℕ → ℕ → List ℕ → List ℕ → Type 0) (limit
 
   -- ---- a poll that fails
 
-  failure_rose : (why : ExchangeFault) (f : Flight) (p : Pooled) (a b : WireState) → OpensGiven a → Owns f p a → Follows limit a f.exchange → Served f.exchange.address → (h : Polls (poll.Ready (Err why)) f a b)
+  failure_rose : (why : ExchangeFault) (f : Flight) (p : Pooled) (a b : WireState) → OpensGiven a → Owns f p a → Follows limit a f.exchange → Served f.exchange.address → (h : Polls (Some (Err why)) f a b)
       → IsFailure why → AreShort (held_on p) b → Rose a.faults b.faults
   failure_rose exchanges.Failed f p a b g o s served h is short = h.answers.rose
   failure_rose (exchanges.Cut received) f p a b g o s served h is short =
@@ -252,9 +251,9 @@ module _ (allows : List ℕ → ℕ → List ℕ → List ℕ → Type 0) (limit
         address = f.exchange.address;
         served = served;
         received = received;
-        on = over_on limit f a b s (poll.Ready (Err (exchanges.Cut received))) h received e;
+        on = over_on limit f a b s (Some (Err (exchanges.Cut received))) h received e;
         given = polled_given f.exchange.address f.exchange.link h.now.link a b h.touches.link g (linked_open f.exchange.link (held_on p) a o.owned) e.k e.link;
-        none = own_link (poll.Ready (Err (exchanges.Cut received))) f p a b g o h e.k e.link;
+        none = own_link (Some (Err (exchanges.Cut received))) f p a b g o h e.k e.link;
         more = ap (λ (n : ℕ). reply_of received true n) (sym (h.touches.limit ∙ s.is_limit)) ∙ h.answers.more;
       }))
   failure_rose (exchanges.Bad fault received) f p a b g o s served h is short = absurd is

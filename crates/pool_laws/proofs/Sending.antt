@@ -2,8 +2,6 @@
 use Rattle.std.proofs.Common.{ℕ, ◌≡◌, ◌+◌, ◌<◌, ◌≤◌, ◌⊎◌, inl, inr, ◌++◌, List, [], ◌∷◌, Option, Some, None, Result, Ok, Err, refl, sym, ◌∙◌, ap, subst, arith, append-nil}
 use Rattle.std.specs.List.{AllByRecursion, Contains}
 use Rattle.std.proofs.lemmas.Bool.{cases_lt, cases_eq}
-use Rattle.futures.specs.declared.task.Poll.{Poll}
-use Rattle.futures.specs.declared.task.Poll.TheVariants as poll
 use Rattle.tpf_base.specs.Addresses.{Address, authority_of}
 use Rattle.tpf_base.specs.declared.fault.Fault.{Fault}
 use Rattle.tpf_base.specs.declared.wire.Ready.{Ready}
@@ -109,29 +107,29 @@ module _ (asked : Address → Type 0) where
   stands_sent s r e None k b l h = cc
   stands_sent s r e (Some i) k b l h = subst (λ (x : ℕ). Holds (b.links x).sent (s ++ e.sent)) (some_is i k l) h.0
 
-  polled_sent : (answer : Poll (Result Reply ExchangeFault)) (f : Flight) (a b : WireState) (h : Polls answer f a b) → asked h.now.address → SendsOwn asked a f.exchange → (k : ℕ) → h.now.link ≡ Some k → SendsFor asked (b.links k)
-  polled_sent poll.Pending f a b h is s k e = record {
+  polled_sent : (answer : Option (Result Reply ExchangeFault)) (f : Flight) (a b : WireState) (h : Polls answer f a b) → asked h.now.address → SendsOwn asked a f.exchange → (k : ℕ) → h.now.link ≡ Some k → SendsFor asked (b.links k)
+  polled_sent None f a b h is s k e = record {
     whole = s.whole;
     are_asked = s.are_asked;
     part = h.now.sent;
     is_part = FrontOf h.now.address is (front_for h.now.sent h.now.address h.answers.front);
     sent_is = stands_sent (requests_for s.whole) s.received h.now h.now.link k b e (h.answers.stands (requests_for s.whole) s.received s.stands);
   }
-  polled_sent (poll.Ready (Ok answer)) f a b h is s k e =
+  polled_sent (Some (Ok answer)) f a b h is s k e =
       subst (λ (x : ℕ). SendsFor asked (b.links x)) (one_value h.now.link h.answers.link e)
       (whole_sent h.now.address s.whole (b.links h.answers.k) is s.are_asked (h.answers.sent_is (requests_for s.whole) s.received s.stands))
-  polled_sent (poll.Ready (Err exchanges.Failed)) f a b h is s k e = front_sent f.exchange h.now a b h.now.link k e h.answers.breaks.front is s
-  polled_sent (poll.Ready (Err (exchanges.Cut received))) f a b h is s k e = ends_sent f.exchange h.now a b received k e h.answers.ends is s
-  polled_sent (poll.Ready (Err (exchanges.Bad fault received))) f a b h is s k e = ends_sent f.exchange h.now a b received k e h.answers.ends is s
-  polled_sent (poll.Ready (Err exchanges.OutOfMemory)) f a b h is s k e = front_sent f.exchange h.now a b h.now.link k e h.answers.front is s
+  polled_sent (Some (Err exchanges.Failed)) f a b h is s k e = front_sent f.exchange h.now a b h.now.link k e h.answers.breaks.front is s
+  polled_sent (Some (Err (exchanges.Cut received))) f a b h is s k e = ends_sent f.exchange h.now a b received k e h.answers.ends is s
+  polled_sent (Some (Err (exchanges.Bad fault received))) f a b h is s k e = ends_sent f.exchange h.now a b received k e h.answers.ends is s
+  polled_sent (Some (Err exchanges.OutOfMemory)) f a b h is s k e = front_sent f.exchange h.now a b h.now.link k e h.answers.front is s
 
-  asked_polled : (answer : Poll (Result Reply ExchangeFault)) (f : Flight) (a b : WireState) (h : Polls answer f a b) → SendsOwn asked a f.exchange → asked h.now.address
+  asked_polled : (answer : Option (Result Reply ExchangeFault)) (f : Flight) (a b : WireState) (h : Polls answer f a b) → SendsOwn asked a f.exchange → asked h.now.address
   asked_polled answer f a b h s = subst asked (sym h.touches.address) s.is_asked
 
   -- an exchange that goes on
-  goes_on : (f : Flight) (a b : WireState) (h : Polls poll.Pending f a b) → SendsOwn asked a f.exchange → SendsOwn asked b h.now
+  goes_on : (f : Flight) (a b : WireState) (h : Polls None f a b) → SendsOwn asked a f.exchange → SendsOwn asked b h.now
   goes_on f a b h s = record {
-    is_asked = asked_polled poll.Pending f a b h s;
+    is_asked = asked_polled None f a b h s;
     whole = s.whole;
     are_asked = s.are_asked;
     received = s.received;
@@ -140,11 +138,11 @@ module _ (asked : Address → Type 0) where
   }
 
   -- a link that was left
-  left_sends : (limit : ℕ) (f : Flight) (a b : WireState) (answer : Reply) (h : Polls (poll.Ready (Ok answer)) f a b) (k : ℕ) → left_link h.now ≡ Some k → SendsOwn asked a f.exchange → SendsOwn asked b (starting h.now.address limit (Some k))
+  left_sends : (limit : ℕ) (f : Flight) (a b : WireState) (answer : Reply) (h : Polls (Some (Ok answer)) f a b) (k : ℕ) → left_link h.now ≡ Some k → SendsOwn asked a f.exchange → SendsOwn asked b (starting h.now.address limit (Some k))
   left_sends limit f a b answer h k e s =
       let r = h.answers in
       let at = one_value h.now.link r.link (left_is h.now.standing h.now.link k e).1 in
-      let is = asked_polled (poll.Ready (Ok answer)) f a b h s in
+      let is = asked_polled (Some (Ok answer)) f a b h s in
       record {
         is_asked = is;
         whole = s.whole ++ h.now.address ∷ [];
@@ -190,7 +188,7 @@ module _ (asked : Address → Type 0) where
 
     -- ---- an exchange that was taken out
 
-    module _ (answer : Poll (Result Reply ExchangeFault)) (f : Flight) (p : Pooled) (a b : WireState) (g : OpensGiven a) (o : Owns f p a) (h : Polls answer f a b) (s : SendsOwn asked a f.exchange) (w : Sends p a) where
+    module _ (answer : Option (Result Reply ExchangeFault)) (f : Flight) (p : Pooled) (a b : WireState) (g : OpensGiven a) (o : Owns f p a) (h : Polls answer f a b) (s : SendsOwn asked a f.exchange) (w : Sends p a) where
       given_after : (k : ℕ) → since.given ≤ k → k < b.given → SendsFor asked (b.links k)
       given_after k low below =
           let after = after_link f.exchange.address f.exchange.link h.now.link a b h.touches.link h.touches.others in
@@ -238,11 +236,11 @@ module _ (asked : Address → Type 0) where
 
     flight_sends : (result : Result Polled PoolFault) (f : Flight) (p q : Pooled) (a b : WireState) → OpensGiven a → Owns f p a → SendsOwn asked a f.exchange → Sends p a → FlightTo result f p q a b → Sends q b
     flight_sends (Ok polls.Pending) f p q a b g o s h t =
-        is_pool (record p { polled = p.polled ++ (record f { exchange = t.0.now }) ∷ [] }) q b t.1 (with_flight p (record f { exchange = t.0.now }) b (goes_on f a b t.0 s) (rest_sends poll.Pending f p a b g o t.0 s h))
+        is_pool (record p { polled = p.polled ++ (record f { exchange = t.0.now }) ∷ [] }) q b t.1 (with_flight p (record f { exchange = t.0.now }) b (goes_on f a b t.0 s) (rest_sends None f p a b g o t.0 s h))
     flight_sends (Ok (polls.Came ticket address answer)) f p q a b g o s h t =
-        settles_sends (left_link t.1.now) t.1.now.address p q t.0 b (λ k e. left_sends p.limit f a t.0 answer t.1 k e s) (rest_sends (poll.Ready (Ok answer)) f p a t.0 g o t.1 s h) t.3
+        settles_sends (left_link t.1.now) t.1.now.address p q t.0 b (λ k e. left_sends p.limit f a t.0 answer t.1 k e s) (rest_sends (Some (Ok answer)) f p a t.0 g o t.1 s h) t.3
     flight_sends (Ok polls.Failed) f p q a b g o s h t =
-        is_pool _ q b t.4 (with_waiting p _ b (asked_polled (poll.Ready (Err t.0)) f a b t.1 s) (rest_sends (poll.Ready (Err t.0)) f p a b g o t.1 s h))
+        is_pool _ q b t.4 (with_waiting p _ b (asked_polled (Some (Err t.0)) f a b t.1 s) (rest_sends (Some (Err t.0)) f p a b g o t.1 s h))
     flight_sends (Err faults.Exchange) f p q a b g o s h t = is_pool p q b t.2 (rest_sends _ f p a b g o t.0 s h)
     flight_sends (Err (faults.Cut received)) f p q a b g o s h t = is_pool p q b t.2 (rest_sends _ f p a b g o t.0 s h)
     flight_sends (Err (faults.Reply fault received)) f p q a b g o s h t = is_pool p q b t.1 (rest_sends _ f p a b g o t.0 s h)

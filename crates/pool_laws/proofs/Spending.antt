@@ -10,8 +10,6 @@ use Rattle.exchange.specs.Exchanges.{left_link}
 use Rattle.exchange.specs.Polls.{LinkAfter}
 use Rattle.exchange.specs.declared.fault.ExchangeFault.{ExchangeFault}
 use Rattle.exchange.specs.declared.fault.ExchangeFault.TheVariants as exchanges
-use Rattle.futures.specs.declared.task.Poll.{Poll}
-use Rattle.futures.specs.declared.task.Poll.TheVariants as poll
 use Rattle.http_wire.specs.declared.message.Reply.{Reply}
 use Rattle.request_pool.specs.declared.asks.Waiting.{Waiting}
 use Rattle.request_pool.specs.declared.asks.Flight.{Flight}
@@ -117,7 +115,7 @@ module _ (since : WireState) (asked : ℕ) where
   by_any address None None a b l = omega (arith, l.0)
   by_any address None (Some i) a b l = omega (arith, l.1)
 
-  module _ (answer : Poll (Result Reply ExchangeFault)) (f : Flight) (p : Pooled) (a b : WireState) (h : Polls answer f a b) (s : Out f p a) where
+  module _ (answer : Option (Result Reply ExchangeFault)) (f : Flight) (p : Pooled) (a b : WireState) (h : Polls answer f a b) (s : Out f p a) where
     paid_by_link : (k : ℕ) → h.now.link ≡ Some k → Paid p b
     paid_by_link k e =
         let more = by_link f.exchange.address f.exchange.link h.now.link k a b e h.touches.link in
@@ -128,9 +126,9 @@ module _ (since : WireState) (asked : ℕ) where
         let more = by_any f.exchange.address f.exchange.link h.now.link a b h.touches.link in
         record { later = omega (arith, s.later, more); rises = s.rises + 1; rose = once_more s.rises since.faults a.faults b.faults s.rose rose; few = omega (arith, s.few, s.later, more, at_most_one f.exchange.link) }
 
-  paid_failure : (why : ExchangeFault) (f : Flight) (p : Pooled) (a b : WireState) (h : Polls (poll.Ready (Err why)) f a b) → IsFailure why → Out f p a → Paid p b
-  paid_failure exchanges.Failed f p a b h is s = paid_by_rise (poll.Ready (Err exchanges.Failed)) f p a b h s h.answers.rose
-  paid_failure (exchanges.Cut received) f p a b h is s = paid_by_link (poll.Ready (Err (exchanges.Cut received))) f p a b h s h.answers.ends.k h.answers.ends.link
+  paid_failure : (why : ExchangeFault) (f : Flight) (p : Pooled) (a b : WireState) (h : Polls (Some (Err why)) f a b) → IsFailure why → Out f p a → Paid p b
+  paid_failure exchanges.Failed f p a b h is s = paid_by_rise (Some (Err exchanges.Failed)) f p a b h s h.answers.rose
+  paid_failure (exchanges.Cut received) f p a b h is s = paid_by_link (Some (Err (exchanges.Cut received))) f p a b h s h.answers.ends.k h.answers.ends.link
   paid_failure (exchanges.Bad fault received) f p a b h is s = absurd is
   paid_failure exchanges.OutOfMemory f p a b h is s = absurd is
 
@@ -157,15 +155,15 @@ module _ (since : WireState) (asked : ℕ) where
       let g : Flight = record f { exchange = t.0.now } in
       spent_as (record p { polled = p.polled ++ (record f { exchange = t.0.now }) ∷ [] }) q b t.1
       (holds_one p (record p { polled = p.polled ++ (record f { exchange = t.0.now }) ∷ [] }) b refl (omega (arith, length-append p.polled (g ∷ [])))
-      (paid_by_link poll.Pending f p a b t.0 s t.0.answers.k t.0.answers.link))
+      (paid_by_link None f p a b t.0 s t.0.answers.k t.0.answers.link))
   flight_spent (Ok (polls.Came ticket address answer)) f p q a b some s t =
-      settle_spent (left_link t.1.now) t.1.now.address p q t.0 b t.3 (paid_by_link (poll.Ready (Ok answer)) f p a t.0 t.1 s t.1.answers.k t.1.answers.link)
+      settle_spent (left_link t.1.now) t.1.now.address p q t.0 b t.3 (paid_by_link (Some (Ok answer)) f p a t.0 t.1 s t.1.answers.k t.1.answers.link)
   flight_spent (Ok polls.Failed) f p q a b some s t =
       spent_as (record p { waiting = again (record f { exchange = t.1.now }) ∷ p.waiting }) q b t.4
       (holds_one p (record p { waiting = again (record f { exchange = t.1.now }) ∷ p.waiting }) b refl (omega arith) (paid_failure t.0 f p a b t.1 t.2 s))
-  flight_spent (Err faults.Exchange) f p q a b some s t = lost p q b t.2 (paid_by_rise (poll.Ready (Err exchanges.Failed)) f p a b t.0 s t.0.answers.rose)
-  flight_spent (Err (faults.Cut received)) f p q a b some s t = lost p q b t.2 (paid_by_link (poll.Ready (Err (exchanges.Cut received))) f p a b t.0 s t.0.answers.ends.k t.0.answers.ends.link)
-  flight_spent (Err (faults.Reply fault received)) f p q a b some s t = lost p q b t.1 (paid_by_link (poll.Ready (Err (exchanges.Bad fault received))) f p a b t.0 s t.0.answers.ends.k t.0.answers.ends.link)
+  flight_spent (Err faults.Exchange) f p q a b some s t = lost p q b t.2 (paid_by_rise (Some (Err exchanges.Failed)) f p a b t.0 s t.0.answers.rose)
+  flight_spent (Err (faults.Cut received)) f p q a b some s t = lost p q b t.2 (paid_by_link (Some (Err (exchanges.Cut received))) f p a b t.0 s t.0.answers.ends.k t.0.answers.ends.link)
+  flight_spent (Err (faults.Reply fault received)) f p q a b some s t = lost p q b t.1 (paid_by_link (Some (Err (exchanges.Bad fault received))) f p a b t.0 s t.0.answers.ends.k t.0.answers.ends.link)
   flight_spent (Err faults.OutOfMemory) f p q a b some s t = absurd (some refl)
   flight_spent (Err faults.Stalled) f p q a b some s t = absurd t
   flight_spent (Err faults.Budget) f p q a b some s t = absurd t

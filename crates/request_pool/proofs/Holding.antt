@@ -3,7 +3,6 @@ use Rattle.std.proofs.Common.{ℕ, ◌≡◌, ◌+◌, ◌++◌, List, [], ◌�
 use Rattle.std.proofs.lemmas.List.{map-append}
 use Rattle.std.specs.List.Sorted.{IsPermutation}
 use Rattle.std.proofs.lemmas.List.Sorted.{IsPermutation-refl, IsPermutation-sym, IsPermutation-trans, IsPermutation-middle, IsPermutation-append_right}
-use Rattle.futures.specs.declared.task.Poll.{Poll}
 use Rattle.tpf_base.specs.Addresses.{Address}
 use Rattle.tpf_base.specs.Links.{WireState}
 use Rattle.exchange.specs.Exchanges.{left_link}
@@ -43,7 +42,7 @@ pub held_out : (f : Flight) (p : Pooled) → IsPermutation (held_with f p) (ask_
 held_out f p = permuted _ _ _ _ (with_mapped f p) (ap (λ (l : List Ask). ask_flying f ∷ l) (held_mapped p)) (taken_out (map ask_waiting p.waiting) (map ask_flying p.polled) (map ask_flying p.due) (ask_flying f))
 
 -- a poll leaves the ask
-pub same_ask : (answer : Poll (Result Reply ExchangeFault)) (f : Flight) (a b : WireState) (h : Polls answer f a b) → ask_flying (record f { exchange = h.now }) ≡ ask_flying f
+pub same_ask : (answer : Option (Result Reply ExchangeFault)) (f : Flight) (a b : WireState) (h : Polls answer f a b) → ask_flying (record f { exchange = h.now }) ≡ ask_flying f
 same_ask answer f a b h = ap (λ x. record { ticket = f.ticket; address = x }) h.touches.address
 
 pub flight_holds : (result : Result Polled PoolFault) (f : Flight) (p q : Pooled) (a b : WireState) → is_end result ≡ false → FlightTo result f p q a b → IsPermutation (held_with f p) (held q)

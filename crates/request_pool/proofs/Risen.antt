@@ -2,8 +2,6 @@
 use Rattle.std.proofs.Common.{ℕ, ◌≡◌, ◌≢◌, ◌<◌, ◌≤◌, inl, inr, ◌++◌, List, [], ◌∷◌, Option, Some, None, Bool, true, false, Result, Ok, Err, refl, sym, ◌∙◌, ap, subst, arith}
 use Rattle.std.proofs.lemmas.Bool.{cases_lt, cases_eq}
 use Rattle.std.specs.List.{AllByRecursion}
-use Rattle.futures.specs.declared.task.Poll.{Poll}
-use Rattle.futures.specs.declared.task.Poll.TheVariants as poll
 use Rattle.tpf_base.specs.Causes.{Rose}
 use Rattle.tpf_base.specs.Addresses.{Address}
 use Rattle.tpf_base.specs.Links.{Link, WireState, OpensGiven}
@@ -69,7 +67,7 @@ opens_link address None None a b l same g linked k h = ap (λ (x : Link). x.is_o
 opens_link address None (Some i) a b l same g linked k h =
     ap (λ (x : Link). x.is_open) (same k (λ e. let q : i ≡ k = some_is i k e in absurd (omega (arith, q, l.0, l.1, h)))) ∙ g k (omega (arith, l.1, h))
 
-pub opens_poll : (answer : Poll (Result Reply ExchangeFault)) (f : Flight) (p : Pooled) (a b : WireState) → OpensGiven a → Owns f p a → Polls answer f a b → OpensGiven b
+pub opens_poll : (answer : Option (Result Reply ExchangeFault)) (f : Flight) (p : Pooled) (a b : WireState) → OpensGiven a → Owns f p a → Polls answer f a b → OpensGiven b
 opens_poll answer f p a b g o h = opens_link f.exchange.address f.exchange.link h.now.link a b h.touches.link h.touches.others g (linked_open f.exchange.link (held_on p) a o.owned)
 
 rose_up : (x y n m : ℕ) → Rose y n → x ≤ y → n ≤ m → Rose x m
@@ -123,7 +121,7 @@ risen_as since b o k e h = subst (λ (x : Option ℕ). RisenOn since b x) (sym e
 link_as : (address : Address) (o p : Option ℕ) (k : ℕ) (a b : WireState) → p ≡ Some k → LinkAfter address o p a b → LinkAfter address o (Some k) a b
 link_as address o p k a b e h = subst (λ (x : Option ℕ). LinkAfter address o x a b) e h
 
-pub risen_poll : (f : Flight) (p : Pooled) (since a b : WireState) → OpensGiven b → Later since a → (h : Polls poll.Pending f a b) → RisenOn since b h.now.link
+pub risen_poll : (f : Flight) (p : Pooled) (since a b : WireState) → OpensGiven b → Later since a → (h : Polls None f a b) → RisenOn since b h.now.link
 risen_poll f p since a b g later h =
     let w = h.answers in
     let r = rose_link f.exchange.address f.exchange.link w.k since a b later (link_as f.exchange.address f.exchange.link h.now.link w.k a b w.link h.touches.link) w.stalls in
@@ -155,12 +153,12 @@ none_off : (n : ℕ) → n ≡ 0 → 0 < n → ⊥
 none_off n z p = omega (arith, z, p)
 
 -- a poll calls on no link of the others
-asleep_rest : (answer : Poll (Result Reply ExchangeFault)) (f : Flight) (p : Pooled) (a b : WireState) → OpensGiven a → Owns f p a → Polls answer f a b → AreAsleep a p.polled → AreAsleep b p.polled
+asleep_rest : (answer : Option (Result Reply ExchangeFault)) (f : Flight) (p : Pooled) (a b : WireState) → OpensGiven a → Owns f p a → Polls answer f a b → AreAsleep a p.polled → AreAsleep b p.polled
 asleep_rest answer f p a b g o h i =
     asleep_others p.polled a b
     (λ k l. h.touches.others k (λ e. none_off (held_on p k) (rest_none f.exchange.address f.exchange.link h.now.link a b h.touches.link g (held_on p) o.owned k e) (omega (arith, l)))) i
 
-asleep_poll : (f : Flight) (a b : WireState) (h : Polls poll.Pending f a b) → AsleepOn b h.now.link
+asleep_poll : (f : Flight) (a b : WireState) (h : Polls None f a b) → AsleepOn b h.now.link
 asleep_poll f a b h = subst (λ (x : Option ℕ). AsleepOn b x) (sym h.answers.link) h.answers.asleep
 
 -- ---- a moment of a run
@@ -176,7 +174,7 @@ pub record Fares (known : Bool) (since : WireState) (p : Pooled) (a : WireState)
 flight_fares : (result : Result Polled PoolFault) (known : Bool) (since : WireState) (f : Flight) (p q : Pooled) (a b : WireState) → is_end result ≡ false → OpensGiven a → Owns f p a → Later since a → (known ≡ true → AreRisen since a p.polled)
     → (known ≡ true → AreAsleep a p.polled) → FlightTo result f p q a b → Fares known since q b
 flight_fares (Ok polls.Pending) known since f p q a b e g o later risen asleep h =
-    let g' = opens_poll poll.Pending f p a b g o h.0 in
+    let g' = opens_poll None f p a b g o h.0 in
     let l = later_poll f.exchange h.0.now a b h.0.touches in
     record {
       suits = flight_suits (Ok polls.Pending) f p q a b g o h;
@@ -185,16 +183,16 @@ flight_fares (Ok polls.Pending) known since f p q a b e g o later risen asleep h
       risen = λ (k : known ≡ true). subst (λ (x : Pooled). AreRisen since b x.polled) (sym h.1)
           (risen-append since b p.polled ((record f { exchange = h.0.now }) ∷ []) (are_risen since a b p.polled l (risen k)) (risen_poll f p since a b g' later h.0, tt));
       asleep = λ (k : known ≡ true). subst (λ (x : Pooled). AreAsleep b x.polled) (sym h.1)
-          (asleep-append b p.polled ((record f { exchange = h.0.now }) ∷ []) (asleep_rest poll.Pending f p a b g o h.0 (asleep k)) (asleep_poll f a b h.0, tt));
+          (asleep-append b p.polled ((record f { exchange = h.0.now }) ∷ []) (asleep_rest None f p a b g o h.0 (asleep k)) (asleep_poll f a b h.0, tt));
     }
 flight_fares (Ok polls.Failed) known since f p q a b e g o later risen asleep h =
     let l = later_poll f.exchange h.1.now a b h.1.touches in
     record {
       suits = flight_suits (Ok polls.Failed) f p q a b g o h;
-      given = opens_poll (poll.Ready (Err h.0)) f p a b g o h.1;
+      given = opens_poll (Some (Err h.0)) f p a b g o h.1;
       later = later_then since a b later l;
       risen = λ (k : known ≡ true). subst (λ (x : Pooled). AreRisen since b x.polled) (sym h.4) (are_risen since a b p.polled l (risen k));
-      asleep = λ (k : known ≡ true). subst (λ (x : Pooled). AreAsleep b x.polled) (sym h.4) (asleep_rest (poll.Ready (Err h.0)) f p a b g o h.1 (asleep k));
+      asleep = λ (k : known ≡ true). subst (λ (x : Pooled). AreAsleep b x.polled) (sym h.4) (asleep_rest (Some (Err h.0)) f p a b g o h.1 (asleep k));
     }
 flight_fares (Ok (polls.Came ticket address answer)) known since f p q a b e g o later risen asleep h = cc
 flight_fares (Err fault) known since f p q a b e g o later risen asleep h = cc

@@ -1,7 +1,5 @@
 -- What each call leaves of the links that a pool holds: each is open, and held once.
 use Rattle.std.proofs.Common.{ℕ, ◌≡◌, ◌+◌, ◌≤◌, ◌⊎◌, inl, inr, ◌++◌, List, [], ◌∷◌, Option, Some, None, true, Result, Ok, Err, refl, sym, ◌∙◌, ap, subst, arith}
-use Rattle.futures.specs.declared.task.Poll.{Poll}
-use Rattle.futures.specs.declared.task.Poll.TheVariants as poll
 use Rattle.tpf_base.specs.Addresses.{Address, authority_of}
 use Rattle.tpf_base.specs.declared.fault.Fault.{Fault}
 use Rattle.tpf_base.specs.declared.wire.Ready.{Ready}
@@ -50,10 +48,10 @@ shuts_rest : (o : Option ℕ) (a b : WireState) → Shuts o a b → (rest : ℕ 
 shuts_rest None a b s rest h none k = subst (λ (x : WireState). rest k ≤ open_on x k) (sym s) (h k)
 shuts_rest (Some i) a b s rest h none k = rest_closed i a b s rest h (none i refl) k
 
-none_of : (answer : Poll (Result Reply ExchangeFault)) (f : Flight) (p : Pooled) (a b : WireState) → OpensGiven a → Owns f p a → (h : Polls answer f a b) → (k : ℕ) → h.now.link ≡ Some k → held_on p k ≡ 0
+none_of : (answer : Option (Result Reply ExchangeFault)) (f : Flight) (p : Pooled) (a b : WireState) → OpensGiven a → Owns f p a → (h : Polls answer f a b) → (k : ℕ) → h.now.link ≡ Some k → held_on p k ≡ 0
 none_of answer f p a b g o h = rest_none f.exchange.address f.exchange.link h.now.link a b h.touches.link g (held_on p) o.owned
 
-rest_of : (answer : Poll (Result Reply ExchangeFault)) (f : Flight) (p : Pooled) (a b : WireState) → OpensGiven a → Owns f p a → (h : Polls answer f a b) → (k : ℕ) → held_on p k ≤ open_on b k
+rest_of : (answer : Option (Result Reply ExchangeFault)) (f : Flight) (p : Pooled) (a b : WireState) → OpensGiven a → Owns f p a → (h : Polls answer f a b) → (k : ℕ) → held_on p k ≤ open_on b k
 rest_of answer f p a b g o h = rest_after h.now.link a b h.touches.others f.exchange.link (held_on p) o.owned (none_of answer f p a b g o h)
 
 pub left_is : (s : Standing) (o : Option ℕ) (k : ℕ) → left_by s o ≡ Some k → (s ≡ Left) × (o ≡ Some k)
@@ -87,7 +85,7 @@ shut_rest o a b (inr s) rest h none k = shuts_rest o a b s rest h none k
 pub flight_suits : (result : Result Polled PoolFault) (f : Flight) (p q : Pooled) (a b : WireState) → OpensGiven a → Owns f p a → FlightTo result f p q a b → SuitsWire q b
 flight_suits (Ok polls.Pending) f p q a b g o h =
     let w = h.0.answers in
-    let own = own_after h.0.now.link b (held_on p) (rest_of poll.Pending f p a b g o h.0) (none_of poll.Pending f p a b g o h.0) (subst (λ (x : Option ℕ). IsLinked x b) (sym w.link) w.is_open) in
+    let own = own_after h.0.now.link b (held_on p) (rest_of None f p a b g o h.0) (none_of None f p a b g o h.0) (subst (λ (x : Option ℕ). IsLinked x b) (sym w.link) w.is_open) in
     subst (λ (x : Pooled). SuitsWire x b) (sym h.1) (record {
       polled = underway-append p.polled ((record f { exchange = h.0.now }) ∷ []) o.polled (w.standing, tt);
       due = o.due;
@@ -95,10 +93,10 @@ flight_suits (Ok polls.Pending) f p q a b g o h =
     })
 flight_suits (Ok (polls.Came ticket address answer)) f p q a b g o h =
     let w = h.1.answers in
-    settles_suits h.1.now.standing h.1.now.link h.1.now.address p q h.0 b o.polled o.due (rest_of (poll.Ready (Ok answer)) f p a h.0 g o h.1) (none_of (poll.Ready (Ok answer)) f p a h.0 g o h.1)
+    settles_suits h.1.now.standing h.1.now.link h.1.now.address p q h.0 b o.polled o.due (rest_of (Some (Ok answer)) f p a h.0 g o h.1) (none_of (Some (Ok answer)) f p a h.0 g o h.1)
     (λ (e : h.1.now.standing ≡ Left). subst (λ (x : Option ℕ). IsLinked x h.0) (sym w.link) (w.is_open e).0) h.3
 flight_suits (Ok polls.Failed) f p q a b g o h =
-    subst (λ (x : Pooled). SuitsWire x b) (sym h.4) (record { polled = o.polled; due = o.due; owned = rest_of (poll.Ready (Err h.0)) f p a b g o h.1 })
+    subst (λ (x : Pooled). SuitsWire x b) (sym h.4) (record { polled = o.polled; due = o.due; owned = rest_of (Some (Err h.0)) f p a b g o h.1 })
 flight_suits (Err faults.Exchange) f p q a b g o h = subst (λ (x : Pooled). SuitsWire x b) (sym h.2) (record { polled = o.polled; due = o.due; owned = rest_of _ f p a b g o h.0 })
 flight_suits (Err (faults.Cut received)) f p q a b g o h = subst (λ (x : Pooled). SuitsWire x b) (sym h.2) (record { polled = o.polled; due = o.due; owned = rest_of _ f p a b g o h.0 })
 flight_suits (Err (faults.Reply fault received)) f p q a b g o h = subst (λ (x : Pooled). SuitsWire x b) (sym h.1) (record { polled = o.polled; due = o.due; owned = rest_of _ f p a b g o h.0 })

@@ -1,8 +1,6 @@
 -- What a poll of one exchange in flight comes to.
 use Rattle.std.specs.Prelude.{ℕ, ◌≡◌, ◌+◌, ◌<◌, ◌≤◌, ◌⊎◌, ◌++◌, List, ◌∷◌, length, Option, Some, None, Result, Ok, Err, IfOk, slice_index_or}
 use Rattle.std.specs.List.{All}
-use Rattle.futures.specs.declared.task.Poll.{Poll}
-use Rattle.futures.specs.declared.task.Poll.TheVariants as poll
 use Rattle.tpf_base.specs.Addresses.{Address, authority_of}
 use Rattle.tpf_base.specs.Links.{WireState}
 use Rattle.tpf_base.specs.Calls.{Closes}
@@ -100,7 +98,7 @@ abbrev pub LosesReply : Flight → PoolFault → Pooled → Pooled → WireState
 LosesReply f fault old new wire wire' = (fault ≡ faults.OutOfMemory) × (new ≡ old) × ClosesLeft (left_link f.exchange) wire wire'
 
 -- one poll of an exchange and its answer, after which it is another
-pub record Polls (answer : Poll (Result Reply ExchangeFault)) (f : Flight) (wire wire' : WireState) : Type 0 where
+pub record Polls (answer : Option (Result Reply ExchangeFault)) (f : Flight) (wire wire' : WireState) : Type 0 where
   pub now : Exchanging
   pub touches : Touches f.exchange now wire wire'
   pub answers : Answers f.exchange now wire wire' answer
@@ -119,16 +117,16 @@ IsShut link wire wire' = ClosedOn link wire' × ((wire' ≡ wire) ⊎ Shuts link
 -- What a poll of an exchange comes to that was taken out of the pool: it goes on behind the others that were polled; its reply came; it failed and its ask waits again; its ask failed too often; its reply is refused; or memory ran out.
 abbrev pub FlightTo : Result Polled PoolFault → Flight → Pooled → Pooled → WireState → WireState → Type 0
 FlightTo (Ok polls.Pending) f old new wire wire' =
-    (h : Polls poll.Pending f wire wire') × (new ≡ with_polled (record f { exchange = h.now }) old)
+    (h : Polls None f wire wire') × (new ≡ with_polled (record f { exchange = h.now }) old)
 FlightTo (Ok (polls.Came ticket address answer)) f old new wire wire' =
-    (mid : WireState) × (h : Polls (poll.Ready (Ok answer)) f wire mid) × (ticket ≡ f.ticket) × Settles (left_link h.now) h.now.address old new mid wire' × (address ≡ h.now.address)
+    (mid : WireState) × (h : Polls (Some (Ok answer)) f wire mid) × (ticket ≡ f.ticket) × Settles (left_link h.now) h.now.address old new mid wire' × (address ≡ h.now.address)
 FlightTo (Ok polls.Failed) f old new wire wire' =
-    (why : ExchangeFault) × (h : Polls (poll.Ready (Err why)) f wire wire') × IsFailure why × (f.failed < old.retries)
+    (why : ExchangeFault) × (h : Polls (Some (Err why)) f wire wire') × IsFailure why × (f.failed < old.retries)
     × (new ≡ record old { waiting = again (record f { exchange = h.now }) ∷ old.waiting })
-FlightTo (Err faults.Exchange) f old new wire wire' = Polls (poll.Ready (Err exchanges.Failed)) f wire wire' × (old.retries ≤ f.failed) × (new ≡ old)
-FlightTo (Err (faults.Cut received)) f old new wire wire' = Polls (poll.Ready (Err (exchanges.Cut received))) f wire wire' × (old.retries ≤ f.failed) × (new ≡ old)
-FlightTo (Err (faults.Reply fault received)) f old new wire wire' = Polls (poll.Ready (Err (exchanges.Bad fault received))) f wire wire' × (new ≡ old)
+FlightTo (Err faults.Exchange) f old new wire wire' = Polls (Some (Err exchanges.Failed)) f wire wire' × (old.retries ≤ f.failed) × (new ≡ old)
+FlightTo (Err (faults.Cut received)) f old new wire wire' = Polls (Some (Err (exchanges.Cut received))) f wire wire' × (old.retries ≤ f.failed) × (new ≡ old)
+FlightTo (Err (faults.Reply fault received)) f old new wire wire' = Polls (Some (Err (exchanges.Bad fault received))) f wire wire' × (new ≡ old)
 FlightTo (Err faults.OutOfMemory) f old new wire wire' =
-    (answer : Poll (Result Reply ExchangeFault)) × (mid : WireState) × (h : Polls answer f wire mid) × (new ≡ old) × IsShut h.now.link mid wire'
+    (answer : Option (Result Reply ExchangeFault)) × (mid : WireState) × (h : Polls answer f wire mid) × (new ≡ old) × IsShut h.now.link mid wire'
 FlightTo (Err faults.Stalled) f old new wire wire' = ⊥
 FlightTo (Err faults.Budget) f old new wire wire' = ⊥

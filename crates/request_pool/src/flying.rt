@@ -13,7 +13,6 @@ use crate::fault::{Polled, PoolFault};
 use crate::links::{shut, take_link};
 use crate::pool::Pool;
 use exchange::{Exchange, ExchangeFault, ReceiveBuffer};
-use futures::task::Poll;
 use http_wire::Reply;
 use template_fill::WebAddress;
 use tpf_base::{Bytes, Dial, OutOfMemory};
@@ -110,9 +109,9 @@ impl Pool {
     {
         let mut flight = flight;
         match flight.exchange.poll(wire, buffer) {
-            Poll::Pending => self.go_on(wire, flight),
-            Poll::Ready(Ok(reply)) => self.come(wire, flight, reply),
-            Poll::Ready(Err(fault)) => self.end(flight, fault),
+            None => self.go_on(wire, flight),
+            Some(Ok(reply)) => self.come(wire, flight, reply),
+            Some(Err(fault)) => self.end(flight, fault),
         }
     }
 
