@@ -1,5 +1,6 @@
-//! Rows that are runs of the whole program: the words and the files of a run, what fails in it, the wire that it is
-//! over, and what is shown of how it ends. What runs the program is handed in, so that all of this stands below it:
+//! Rows that are command lines or runs of the whole program: the words and the files of a run, what fails in it, the wire
+//! that it is over, of scripts or in one process to one server or several, and what is shown of how it ends. What runs the
+//! program is handed in, so that all of this stands below it:
 //!
 //! ```rust
 //! "run" => alone(self, alloc, case),
@@ -9,8 +10,10 @@
 #![tactic(auto)]
 
 mod changing_shelf;
+mod commands;
 mod door;
 mod faults;
+mod loops;
 mod outcomes;
 mod program;
 mod rows;
@@ -18,11 +21,11 @@ mod sent;
 mod setups;
 mod wires;
 
-pub use door::WithDoor;
-pub use faults::{Numbered, each_byte, each_write, failures, fronts};
-pub use outcomes::{Outcome, Show, show_of};
-pub use program::{Runs, ended_on};
+pub use commands::command;
+pub use faults::{each_byte, each_write, fronts};
+pub use loops::{Looped, Together, each_call, sent_over};
+pub use outcomes::Outcome;
+pub use program::Runs;
 pub use rows::{alone, traffic};
-pub use sent::push_sent;
-pub use setups::{Failure, Setup, failure_of, setup_of, words_of};
+pub use setups::{Failure, Setup};
 pub use wires::{Over, Scripted, changing, shown_over};

@@ -2,9 +2,9 @@
 ghost use Rattle.std.specs.Prelude.{◌≡◌};
 
 use case_rows::{Answers, Case, CaseFault, run as run_rows};
-use run_case_answers::{Looped, Together, command, each_call, sent_over};
 use run_case_rows::{
-    Outcome, Runs, Scripted, alone, changing, each_byte, each_write, fronts, shown_over, traffic,
+    Looped, Outcome, Runs, Scripted, Together, alone, changing, command, each_byte, each_call,
+    each_write, fronts, sent_over, shown_over, traffic,
 };
 use std::alloc::Global;
 use std::rt::Files;
