@@ -10,8 +10,8 @@ use Rattle.tpf_client.specs.Ended.{WritesEnded, WritesOverEnds}
 use Rattle.tpf_client.proofs.Offered.{text-offered, front-offered}
 use Rattle.tpf_client.proofs.Completing.{completes}
 use Rattle.tpf_client.proofs.Single.{covers, wants-so, writes-single}
-use Rattle.tpf_client.proofs.calls.query.Given as given
-use Rattle.tpf_client.proofs.calls.query.Goals as goal
+use Rattle.single_query.proofs.call.query.Given as given
+use Rattle.single_query.proofs.call.query.Goals as goal
 
 -- ---- by the one start
 

@@ -10,8 +10,8 @@ use Rattle.tpf_client.specs.Ended.{GivesEnded, GivesOverEnds}
 use Rattle.tpf_client.proofs.Offered.{rows-offered}
 use Rattle.tpf_client.proofs.Completing.{completes}
 use Rattle.tpf_client.proofs.Single.{covers, wants-so, paces-still, gives-single}
-use Rattle.tpf_client.proofs.calls.collect.Given as given
-use Rattle.tpf_client.proofs.calls.collect.Goals as goal
+use Rattle.single_query.proofs.call.collect.Given as given
+use Rattle.single_query.proofs.call.collect.Goals as goal
 
 -- ---- by the one start
 
