@@ -14,7 +14,7 @@ use Rattle.rdf_terms.specs.Triples.{IsIri, IsIriOrLiteral, IsGroundTriple}
 use Rattle.rdf_terms.proofs.FragmentLaws.{order_of_total}
 use Rattle.rdf_terms.proofs.SelectionLaws.{one-selection}
 use Rattle.template_fill.specs.Bodies.{in_default_graph}
-use Rattle.page_controls.specs.Contents.{firsts, default_triples, page_triples, IsBlank, HoldsBlank, HasBlankData}
+use Rattle.control_triples.specs.Contents.{firsts, default_triples, page_triples, IsBlank, HoldsBlank, HasBlankData}
 use Rattle.control_reader.proofs.Distinct.{ascending_firsts}
 
 -- ---- pages

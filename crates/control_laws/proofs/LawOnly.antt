@@ -13,8 +13,9 @@ use Rattle.template_fill.specs.Templates.{Template, read_template, expansion}
 use Rattle.template_fill.specs.Pages.{page_address, server_template, template_text}
 use Rattle.template_fill.specs.Metadata.{Config, plain, integer}
 use Rattle.template_fill.proofs.Reading.{one_address}
-use Rattle.page_controls.specs.Vocabulary.{rdf_subject, rdf_predicate, rdf_object}
-use Rattle.page_controls.specs.Controls.{IsTopic, IsNumber, IsCount, FormTexts, IsLiteral, IsForm, IsLeastForm, IsFormOf, IsLink, IsNext, IsHome}
+use Rattle.control_triples.specs.Vocabulary.{rdf_subject, rdf_predicate, rdf_object}
+use Rattle.control_triples.specs.Controls.{IsTopic, IsNumber, IsCount, FormTexts, IsLiteral, IsForm, IsLeastForm, IsLink, IsNext}
+use Rattle.page_controls.specs.Controls.{IsFormOf, IsHome}
 use Rattle.control_laws.specs.Law.{IsNextOf, IsServerForm}
 use Rattle.own_controls.proofs.Controls.{body, topic_only, count_object, next_only, says_next, no_next_is, template_only, place_only, node_only}
 use Rattle.own_controls.specs.Metadata.{Parts}

@@ -26,8 +26,9 @@ use Rattle.template_fill.proofs.Histories.{versions}
 use Rattle.template_fill.specs.Bodies.{version_of, in_default_graph, page_quads, page_body}
 use Rattle.template_fill.proofs.PageTexts.{page_is_longer}
 use Rattle.fragment_page.specs.declared.page.Page.{Page}
-use Rattle.page_controls.specs.Contents.{firsts, page_triples}
-use Rattle.page_controls.specs.Controls.{IsTopic, IsCount, IsLeastForm, IsFormOf, IsNext, IsHome, IsVersion}
+use Rattle.control_triples.specs.Contents.{firsts, page_triples}
+use Rattle.control_triples.specs.Controls.{IsTopic, IsCount, IsLeastForm, IsNext, IsVersion}
+use Rattle.page_controls.specs.Controls.{IsFormOf, IsHome}
 use Rattle.control_reader.specs.Takes.{IsBody, Takes}
 use Rattle.control_laws.specs.Law.{IsWithinLimits, IsNextOf, IsServerForm, IsPageOf, IsReadFrom, IsVersionNumber, ControlsReadBack, NothingElseIsRead, PagesAreThere}
 use Rattle.page_controls.proofs.Fine.{one_version}

@@ -7,7 +7,7 @@ use Rattle.rdf_terms.specs.declared.term.Term.{Term}
 use Rattle.rdf_terms.specs.declared.term.Term.TheVariants.{Iri, Blank, Literal}
 use Rattle.rdf_terms.specs.declared.term.Triple.{Triple}
 use Rattle.rdf_terms.specs.declared.term.Quad.{Quad}
-use Rattle.page_controls.specs.Contents.{page_triples, IsBlank, HoldsBlank, HasBlankData}
+use Rattle.control_triples.specs.Contents.{page_triples, IsBlank, HoldsBlank, HasBlankData}
 use Rattle.control_reader.specs.Blanks.{is_blank, holds_blank}
 
 blank_is : (t : Term) → is_blank t ≡ true → IsBlank t

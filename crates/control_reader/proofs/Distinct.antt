@@ -16,7 +16,7 @@ use Rattle.rdf_terms.specs.declared.term.Quad.{Quad}
 use Rattle.rdf_terms.specs.OrderLaws.{term_total, triple_total}
 use Rattle.rdf_terms.specs.Same.{triple_eq}
 use Rattle.rdf_terms.specs.EqualityLaws.{triple_decides}
-use Rattle.page_controls.specs.Contents.{firsts, page_triples}
+use Rattle.control_triples.specs.Contents.{firsts, page_triples}
 use Rattle.control_reader.specs.Ascending.{triples_of, page_order, climbs, ascends}
 
 -- ---- lists without repeats

@@ -7,7 +7,8 @@ use Rattle.rdf_terms.specs.declared.term.Quad.{Quad}
 use Rattle.tpf_base.specs.Addresses.{Address, IsAddress, address_text, authority_of}
 use Rattle.template_fill.specs.Templates.{Template, expansion}
 use Rattle.template_fill.specs.Authorities.{ShareAuthority, IsTemplate, AuthoritiesAreHostsAndPorts, TemplatesAreKept, ExpansionsShareAuthority}
-use Rattle.page_controls.specs.Controls.{IsLink, IsNext, IsHome}
+use Rattle.control_triples.specs.Controls.{IsLink, IsNext}
+use Rattle.page_controls.specs.Controls.{IsHome}
 use Rattle.control_reader.specs.Authorities.{PagesKeepAuthority}
 
 module _ (hosts_and_ports : AuthoritiesAreHostsAndPorts) (kept : TemplatesAreKept) (expansions : ExpansionsShareAuthority) where

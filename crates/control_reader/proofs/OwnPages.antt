@@ -13,8 +13,9 @@ use Rattle.nquads_text.proofs.RoundTrip.{read_again}
 use Rattle.tpf_base.specs.Addresses.{Address, IsAddress, address_text, authority_of}
 use Rattle.template_fill.specs.Bodies.{in_default_graph}
 use Rattle.fragment_page.specs.declared.page.Page.{Page}
-use Rattle.page_controls.specs.Contents.{firsts, page_triples, HoldsBlank}
-use Rattle.page_controls.specs.Controls.{IsCount, IsLeastForm, IsFormOf, IsNext, IsVersion, IsTopic}
+use Rattle.control_triples.specs.Contents.{firsts, page_triples, HoldsBlank}
+use Rattle.control_triples.specs.Controls.{IsCount, IsLeastForm, IsNext, IsVersion, IsTopic}
+use Rattle.page_controls.specs.Controls.{IsFormOf}
 use Rattle.own_controls.specs.declared.own.OwnControls.{OwnControls}
 use Rattle.own_controls.specs.Metadata.{Parts, metadata}
 use Rattle.own_controls.specs.Own.{IsOwn}

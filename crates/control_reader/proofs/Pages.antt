@@ -9,14 +9,15 @@ use Rattle.page_controls.specs.declared.told.Told.{Told}
 use Rattle.fragment_page.specs.declared.page.Page.{Page}
 use Rattle.fragment_page.specs.declared.page.PageFault.{PageFault}
 use Rattle.fragment_page.specs.declared.page.PageFault.TheVariants as faults
-use Rattle.page_controls.specs.Controls.{IsTopic, FormTexts, IsCount, IsLeastForm, IsNext, IsFormOf, IsVersion}
-use Rattle.page_controls.specs.Contents.{page_triples, HasBlankData}
+use Rattle.control_triples.specs.Controls.{IsTopic, FormTexts, IsCount, IsLeastForm, IsNext, IsVersion}
+use Rattle.page_controls.specs.Controls.{IsFormOf}
+use Rattle.control_triples.specs.Contents.{page_triples, HasBlankData}
 use Rattle.control_reader.specs.Takes.{IsBody, HasControls, Takes, Finds, IsWrong, Faults}
 use Rattle.page_controls.specs.Faults.{HasForeignLink, place_of}
 use Rattle.page_controls.specs.Outcomes.{Answers, IsFaultOf}
 use Rattle.control_reader.specs.Outcomes.{IsPageOrMemory, IsFaultOrMemory}
 use Rattle.page_controls.specs.Stages.{IsAmiss, FirstAmiss, TakesPage, WhyNoPage}
-use Rattle.page_controls.proofs.Topics.{one_topic}
+use Rattle.control_triples.proofs.Topics.{one_topic}
 use Rattle.page_controls.proofs.Fine.{one_count, count_there, count_good, one_least, one_form, form_there, form_good, one_version, one_next, next_one, next_home, form_home, earlier}
 
 ok_same : {E : Type 0} (x y : List Quad) → ◌≡◌ {A = Result (List Quad) E} (Ok x) (Ok y) → x ≡ y

@@ -4,7 +4,7 @@ use Rattle.rdf_terms.specs.declared.term.Triple.{Triple}
 use Rattle.rdf_terms.specs.declared.term.Quad.{Quad}
 use Rattle.rdf_terms.specs.declared.term.Term.{Term}
 use Rattle.rdf_terms.specs.declared.term.Term.TheVariants.{Iri, Blank, Literal}
-use Rattle.page_controls.specs.Contents.{page_triples, HasBlankData}
+use Rattle.control_triples.specs.Contents.{page_triples, HasBlankData}
 
 abbrev pub is_blank : Term → Bool
 is_blank (Iri text) = false

@@ -5,7 +5,8 @@ use Rattle.std.specs.List.{list_all}
 use Rattle.rdf_terms.specs.declared.term.Quad.{Quad}
 use Rattle.tpf_base.specs.Addresses.{Address, IsAddress, authority_of}
 use Rattle.template_fill.specs.declared.form.Form.{Form}
-use Rattle.page_controls.specs.Controls.{FormTexts, IsFormOf, IsHome}
+use Rattle.control_triples.specs.Controls.{FormTexts}
+use Rattle.page_controls.specs.Controls.{IsFormOf, IsHome}
 use Rattle.control_reader.specs.Takes.{IsBody}
 
 -- these are the quads of the lines before the controls, all of the default graph

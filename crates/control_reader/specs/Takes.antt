@@ -8,8 +8,9 @@ use Rattle.tpf_base.specs.Addresses.{Address, address_text, authority_of}
 use Rattle.fragment_page.specs.declared.page.Page.{Page}
 use Rattle.fragment_page.specs.declared.page.PageFault.{PageFault}
 use Rattle.fragment_page.specs.declared.page.PageFault.TheVariants.{Text, NoTopic, NoCount, CountText, NoForm, BadTemplate, TwoNext, ForeignLink, BlankData, OutOfMemory}
-use Rattle.page_controls.specs.Controls.{IsTopic, HasNoTopic, IsCount, HasNoCount, HasBadCount, FormTexts, IsLeastForm, HasNoForm, IsFormOf, HasBadTemplate, IsNext, HasTwoNext, IsHome, IsVersion}
-use Rattle.page_controls.specs.Contents.{page_triples, HasBlankData}
+use Rattle.control_triples.specs.Controls.{IsTopic, HasNoTopic, IsCount, HasNoCount, HasBadCount, FormTexts, IsLeastForm, HasNoForm, IsNext, HasTwoNext, IsVersion}
+use Rattle.page_controls.specs.Controls.{IsFormOf, HasBadTemplate, IsHome}
+use Rattle.control_triples.specs.Contents.{page_triples, HasBlankData}
 use Rattle.page_controls.specs.Faults.{FindsForm, HasForeignLink, place_of}
 
 -- the quads of a body whose terms have canonical texts of at most LONGEST_READ bytes

@@ -3,7 +3,7 @@ ghost use Rattle.std.specs.Prelude.{◌≡◌, IsTrue};
 ghost use Rattle.std.specs.Ordering.{ordering_then};
 ghost use Rattle.rdf_terms.specs.Order.{term_order, triple_order};
 ghost use Rattle.rdf_terms.specs.Slots.{pos_order};
-ghost use Rattle.page_controls.specs.Contents.{firsts};
+ghost use Rattle.control_triples.specs.Contents.{firsts};
 ghost use Rattle.control_reader.specs.Ascending.{triples_of, page_order, climbs, ascends};
 
 use rdf_terms::{Quad, Term, Triple};

@@ -1,9 +1,9 @@
 // The triples of a page.
 ghost use Rattle.std.specs.Prelude.{◌≡◌, IfOk};
 ghost use Rattle.std.specs.List.{list_any};
-ghost use Rattle.page_controls.specs.Contents.{page_triples, HasBlankData};
+ghost use Rattle.control_triples.specs.Contents.{page_triples, HasBlankData};
 ghost use Rattle.page_controls.specs.Outcomes.{Answers};
-ghost use Rattle.page_controls.specs.Marks.{marked};
+ghost use Rattle.control_triples.specs.Marks.{marked};
 ghost use Rattle.control_reader.specs.Ascending.{triples_of};
 ghost use Rattle.control_reader.specs.Blanks.{is_blank, holds_blank, TakesTriples};
 

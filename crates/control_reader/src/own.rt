@@ -11,10 +11,11 @@ ghost use Rattle.control_reader.specs.Blanks.{TakesTriples};
 
 use crate::ascending::ascend;
 use crate::contents::{take_all, take_triples};
+use control_triples::first_marks;
 use fragment_page::{Page, PageFault, TripleList};
 use nquads_text::{TextFault, read_all};
 use own_controls::own_controls;
-use page_controls::{first_marks, is_home};
+use page_controls::is_home;
 use rdf_terms::{LONGEST_READ, Quad, Triple};
 use std::alloc::Global;
 use template_fill::{AddressFault, Form, Template, TemplateFault, WebAddress};

@@ -10,12 +10,13 @@ ghost use Rattle.group_patterns.specs.Asking.{CallEnds, block_in};
 
 use bgp_core::{Pattern, Query, Row, copy_patterns};
 use group_query::Step;
+use single_query::collect;
 use std::alloc::Global;
 use std::sync::Wait;
 use template_fill::WebAddress;
 use text_base::{OutOfMemory, Text};
 use tpf_base::Dial;
-use tpf_client::{ClientFault, Options, Report, collect};
+use tpf_client::{ClientFault, Options, Report};
 
 /// The patterns of the block that a step is.
 pub(crate) fn patterns_of(step: &Step) -> Option<&[Pattern]>

@@ -7,7 +7,7 @@ use Rattle.rdf_terms.specs.declared.term.Term.TheVariants.{Iri, Blank}
 use Rattle.rdf_terms.specs.declared.term.Quad.{Quad}
 use Rattle.tpf_base.specs.Decimals.{decimal_text}
 use Rattle.template_fill.specs.Metadata.{foaf, void, hydra, rdf, plain, integer, topic_quads, form_quads, mapping_quads, count_quads, link_quads, version_quads, owl}
-use Rattle.page_controls.specs.Vocabulary.{primary_topic, total_items, next_page, search_form, form_template, representation, explicit_representation, form_mapping, mapped_variable, mapped_property, rdf_subject, rdf_predicate, rdf_object, version_info}
+use Rattle.control_triples.specs.Vocabulary.{primary_topic, total_items, next_page, search_form, form_template, representation, explicit_representation, form_mapping, mapped_variable, mapped_property, rdf_subject, rdf_predicate, rdf_object, version_info}
 use Rattle.own_controls.specs.Metadata.{Parts, metadata}
 use Rattle.own_controls.proofs.Asking.{asks, asks_object, asks_subject, named}
 

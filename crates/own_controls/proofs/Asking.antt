@@ -10,7 +10,7 @@ use Rattle.rdf_terms.specs.declared.term.Quad.{Quad}
 use Rattle.rdf_terms.specs.Same.{term_eq}
 use Rattle.rdf_terms.specs.EqualityLaws.{term_decides}
 use Rattle.template_fill.specs.Bodies.{in_default_graph}
-use Rattle.page_controls.specs.Controls.{Holds}
+use Rattle.control_triples.specs.Controls.{Holds}
 
 -- ---- those that pass
 

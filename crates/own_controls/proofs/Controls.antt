@@ -19,8 +19,8 @@ use Rattle.tpf_base.specs.Addresses.{Address, IsAddress, authority_of}
 use Rattle.tpf_base.specs.Decimals.{decimal_text}
 use Rattle.template_fill.specs.Metadata.{plain, integer}
 use Rattle.template_fill.specs.Bodies.{in_default_graph}
-use Rattle.page_controls.specs.Vocabulary.{primary_topic, total_items, next_page, search_form, form_template, representation, explicit_representation, form_mapping, mapped_variable, mapped_property, rdf_subject, rdf_predicate, rdf_object, version_info}
-use Rattle.page_controls.specs.Controls.{IsAbout, HasTopic, IsTopic, Says, IsCountObject, IsCount, FormTexts, IsLiteral, IsTemplateOf, MapsTo, IsForm, IsLeastForm, IsNextObject, IsNext, IsNumber, IsVersionObject, IsVersion}
+use Rattle.control_triples.specs.Vocabulary.{primary_topic, total_items, next_page, search_form, form_template, representation, explicit_representation, form_mapping, mapped_variable, mapped_property, rdf_subject, rdf_predicate, rdf_object, version_info}
+use Rattle.control_triples.specs.Controls.{IsAbout, HasTopic, IsTopic, Says, IsCountObject, IsCount, FormTexts, IsLiteral, IsTemplateOf, MapsTo, IsForm, IsLeastForm, IsNextObject, IsNext, IsNumber, IsVersionObject, IsVersion}
 use Rattle.own_controls.proofs.Asking.{asks, asks_object, asks_subject, named, one_passes, one_stands, none_passes, asked, asked_object, asked_subject, named_stands, holds_named, same_subject, same_object}
 use Rattle.own_controls.specs.Metadata.{Parts, metadata}
 use Rattle.own_controls.proofs.Answering.{node, Said, topic_asked, count_asked, version_asked, next_asked, no_next_asked, form_asked, template_asked, representation_asked, subject_said, predicate_said, object_said}

@@ -13,7 +13,7 @@ use Rattle.tpf_base.specs.Decimals.{decimal_text}
 use Rattle.tpf_base.proofs.DecimalTexts.{decimal_text-digits, decimal_text-some, decimal_text-short, decimal_text-long, decimal_text-value}
 use Rattle.template_fill.proofs.Addresses.{utf8-ascii}
 use Rattle.template_fill.proofs.Passing.{list_all-wider}
-use Rattle.page_controls.specs.Controls.{is_count_text}
+use Rattle.control_triples.specs.Controls.{is_count_text}
 
 -- ---- counts
 

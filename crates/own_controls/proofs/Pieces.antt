@@ -6,7 +6,7 @@ use Rattle.std.specs.Str.Parse.{digits_value}
 use Rattle.tpf_base.specs.declared.limits.TheConstants.{HIGHEST_NUMBER}
 use Rattle.tpf_base.specs.Decimals.{decimal_text}
 use Rattle.tpf_base.proofs.DecimalTexts.{of_their_number}
-use Rattle.page_controls.specs.Controls.{is_count_text}
+use Rattle.control_triples.specs.Controls.{is_count_text}
 use Rattle.own_controls.proofs.Numbers.{count_bound, count_form}
 
 pub stripped : (bytes text piece : List ℕ) (r : Option (Bor (List ℕ))) → text ≡ piece → MatchOption r ((rest : List ℕ) → bytes ≢ text ++ rest) (λ x. bytes ≡ text ++ x.now) → IfSome r (λ rest. bytes ≡ piece ++ rest.now)

@@ -3,7 +3,7 @@ ghost use Rattle.std.specs.Prelude.{◌≡◌, ◌≤◌, IfSome, IsTrue, get_or
 ghost use Rattle.tpf_base.specs.declared.limits.TheConstants.{HIGHEST_NUMBER};
 ghost use Rattle.tpf_base.specs.Decimals.{decimal_text};
 
-use page_controls::number_of_digits;
+use control_triples::number_of_digits;
 
 /// Whether there are digits, and no 0 stands before others.
 fn is_plain(digits: &[u8]) -> bool

@@ -7,9 +7,9 @@ use Rattle.rdf_terms.specs.EqualityLaws.{same_iri}
 use Rattle.tpf_base.specs.Addresses.{Address, address_text, authority_of}
 use Rattle.page_controls.specs.declared.told.Told.{Told}
 use Rattle.fragment_page.specs.declared.page.PageFault.{PageFault}
-use Rattle.page_controls.specs.Controls.{IsTopic}
+use Rattle.control_triples.specs.Controls.{IsTopic}
 use Rattle.page_controls.specs.Outcomes.{Answers}
-use Rattle.page_controls.specs.Parts.{Source}
+use Rattle.control_triples.specs.Parts.{Source}
 use Rattle.page_controls.specs.Stages.{TakesControls, FirstAmiss, TakesPage, WhyNoPage}
 
 module _ (quads : List Quad) (address : Address) (s : Source) (t : Term) (same : s.quads ≡ quads) (e : t ≡ Iri s.topic) (h : (topic : List ℕ) × (t ≡ Iri topic) × IsTopic quads (address_text address) topic) where

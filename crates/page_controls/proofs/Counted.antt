@@ -16,14 +16,14 @@ use Rattle.tpf_base.specs.Addresses.{Address, IsAddress, authority_of}
 use Rattle.template_fill.proofs.Reading.{one_address}
 use Rattle.fragment_page.specs.declared.page.PageFault.{PageFault}
 use Rattle.fragment_page.specs.declared.page.PageFault.TheVariants.{ForeignLink}
-use Rattle.page_controls.specs.Vocabulary.{total_items, void_triples}
-use Rattle.page_controls.specs.Controls.{IsOnly, HasTwo, Says, IsCountObject, IsNextObject, IsLink}
+use Rattle.control_triples.specs.Vocabulary.{total_items, void_triples}
+use Rattle.control_triples.specs.Controls.{IsOnly, HasTwo, Says, IsCountObject, IsNextObject, IsLink}
 use Rattle.page_controls.specs.Counts.{WhyNoNext, IsNoLink}
 use Rattle.page_controls.specs.Outcomes.{IsFaultOf}
-use Rattle.page_controls.specs.Ranges.{length_order}
-use Rattle.page_controls.specs.LengthLaws.{length_total}
+use Rattle.control_triples.specs.Ranges.{length_order}
+use Rattle.control_triples.specs.LengthLaws.{length_total}
 use Rattle.page_controls.proofs.Fine.{only_not_two}
-use Rattle.page_controls.specs.Parts.{objects_in}
+use Rattle.control_triples.specs.Parts.{objects_in}
 
 module _ (P : Term → Type 0) where
   pub none_of : (xs : List (Bor Triple)) → length xs ≡ 0 → ((o : Term) → Contains (objects_in xs) o ↔ P o) → (o : Term) → P o → ⊥

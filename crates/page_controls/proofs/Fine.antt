@@ -16,8 +16,9 @@ use Rattle.template_fill.specs.WebAddress.{OneAddress}
 use Rattle.template_fill.specs.declared.form.Form.{Form}
 use Rattle.fragment_page.specs.declared.page.PageFault.{PageFault}
 use Rattle.fragment_page.specs.declared.page.PageFault.TheVariants as faults
-use Rattle.page_controls.specs.Controls.{IsOnly, HasTwo, IsCountObject, IsNumber, IsCount, HasNoCount, HasBadCount, FormTexts, IsLiteral, IsForm, HasNoForm, IsLeastForm, names_all, IsFormOf, HasBadTemplate, IsLink, IsNextObject, IsNext, HasTwoNext, HasForeignNext, IsHome, IsForeign, IsVersionObject, IsVersion}
-use Rattle.page_controls.specs.Contents.{HasBlankData}
+use Rattle.control_triples.specs.Controls.{IsOnly, HasTwo, IsCountObject, IsNumber, IsCount, HasNoCount, HasBadCount, FormTexts, IsLiteral, IsForm, HasNoForm, IsLeastForm, IsLink, IsNextObject, IsNext, HasTwoNext, HasForeignNext, IsVersionObject, IsVersion}
+use Rattle.page_controls.specs.Controls.{names_all, IsFormOf, HasBadTemplate, IsHome, IsForeign}
+use Rattle.control_triples.specs.Contents.{HasBlankData}
 use Rattle.page_controls.specs.Faults.{FindsForm, HasForeignForm, HasForeignLink, place_of}
 use Rattle.page_controls.specs.Outcomes.{IsFaultOf}
 use Rattle.page_controls.specs.Counts.{WhyNoCount, WhyNoNext, TakesForm, WhyNoForm}

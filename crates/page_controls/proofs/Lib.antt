@@ -1,15 +1,4 @@
-pub mod Topics
-pub mod Controlled
-pub mod LengthOrder
-pub mod Ranged
-pub mod Steps
-pub mod Sorted
-pub mod Variabled
-pub mod Firsts
-pub mod Numbers
 pub mod Counted
 pub mod Fine
-pub mod Versioned
-pub mod Formed
 pub mod Asked
 pub mod Homes

@@ -3,11 +3,12 @@ use Rattle.std.specs.Prelude.{ℕ, ◌≡◌, ◌≢◌, ◌⊎◌, ◌↔◌, L
 use Rattle.std.specs.List.{Contains}
 use Rattle.std.specs.Borrow.{Bor}
 use Rattle.rdf_terms.specs.declared.term.Triple.{Triple}
-use Rattle.page_controls.specs.Parts.{objects_in}
+use Rattle.control_triples.specs.Parts.{objects_in}
 use Rattle.rdf_terms.specs.declared.term.Quad.{Quad}
 use Rattle.fragment_page.specs.declared.page.PageFault.{PageFault}
 use Rattle.fragment_page.specs.declared.page.PageFault.TheVariants.{NoCount, CountText, NoForm, BadTemplate, TwoNext, ForeignLink}
-use Rattle.page_controls.specs.Controls.{IsCountObject, IsNextObject, HasNoCount, HasBadCount, HasNoForm, FormTexts, IsLeastForm, IsFormOf, HasBadTemplate, HasTwoNext, HasForeignNext, IsLink}
+use Rattle.control_triples.specs.Controls.{IsCountObject, IsNextObject, HasNoCount, HasBadCount, HasNoForm, FormTexts, IsLeastForm, HasTwoNext, HasForeignNext, IsLink}
+use Rattle.page_controls.specs.Controls.{IsFormOf, HasBadTemplate}
 use Rattle.rdf_terms.specs.declared.term.Term.{Term}
 use Rattle.tpf_base.specs.Addresses.{Address, authority_of}
 use Rattle.page_controls.specs.Faults.{FindsForm}

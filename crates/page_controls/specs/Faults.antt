@@ -4,7 +4,8 @@ use Rattle.rdf_terms.specs.declared.term.Quad.{Quad}
 use Rattle.template_fill.specs.Templates.{Template, read_template}
 use Rattle.fragment_page.specs.declared.page.PageFault.{PageFault}
 use Rattle.fragment_page.specs.declared.page.PageFault.TheVariants.{Text, NoTopic, NoCount, CountText, NoForm, BadTemplate, TwoNext, ForeignLink, BlankData, OutOfMemory}
-use Rattle.page_controls.specs.Controls.{FormTexts, IsLeastForm, HasForeignNext, IsForeign}
+use Rattle.control_triples.specs.Controls.{FormTexts, IsLeastForm, HasForeignNext}
+use Rattle.page_controls.specs.Controls.{IsForeign}
 
 -- the texts of its least form are so
 abbrev pub FindsForm : (FormTexts → Type 0) → List Quad → List ℕ → Type 0

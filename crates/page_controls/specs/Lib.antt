@@ -1,16 +1,5 @@
-pub mod Vocabulary
 pub mod Controls
-pub mod Contents
 pub mod Faults
-pub mod Parts
-pub mod Ranges
-pub mod LengthLaws
-pub mod KeyLaws
-pub mod Variables
-pub mod Places
 pub mod Outcomes
-pub mod Seen
 pub mod Counts
 pub mod Stages
-pub mod Versions
-pub mod Marks

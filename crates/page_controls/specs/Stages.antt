@@ -7,9 +7,10 @@ use Rattle.tpf_base.specs.Addresses.{Address, address_text, authority_of}
 use Rattle.page_controls.specs.declared.told.Told.{Told}
 use Rattle.fragment_page.specs.declared.page.PageFault.{PageFault}
 use Rattle.fragment_page.specs.declared.page.PageFault.TheVariants.{Text, NoTopic, NoCount, CountText, NoForm, BadTemplate, TwoNext, ForeignLink, BlankData, OutOfMemory}
-use Rattle.page_controls.specs.Controls.{IsTopic, HasNoTopic, IsCount, HasNoCount, HasBadCount, HasNoForm, HasBadTemplate, IsNext, HasTwoNext, IsHome, IsVersion}
+use Rattle.control_triples.specs.Controls.{IsTopic, HasNoTopic, IsCount, HasNoCount, HasBadCount, HasNoForm, IsNext, HasTwoNext, IsVersion}
+use Rattle.page_controls.specs.Controls.{HasBadTemplate, IsHome}
 use Rattle.page_controls.specs.Faults.{FindsForm, HasForeignLink, place_of}
-use Rattle.page_controls.specs.Contents.{HasBlankData}
+use Rattle.control_triples.specs.Contents.{HasBlankData}
 use Rattle.page_controls.specs.Counts.{TakesForm}
 
 pub record TakesControls (quads : List Quad) (topic authority : List ℕ) (told : Told) : Type 0 where

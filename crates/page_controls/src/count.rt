@@ -1,66 +1,20 @@
 // The number of triples that the controls give.
-ghost use Rattle.std.specs.Prelude.{ℕ, ◌≡◌, true, false, List, Some, MatchOption};
-ghost use Rattle.std.specs.List.{list_all};
+ghost use Rattle.std.specs.Prelude.{ℕ, ◌≡◌, List};
 ghost use Rattle.std.specs.List.Sorted.{IsStrictlySortedBy};
-ghost use Rattle.std.specs.Char.{is_ascii_digit};
-ghost use Rattle.std.specs.Str.Parse.{digits_value};
 ghost use Rattle.rdf_terms.specs.declared.term.Term.{Term};
 ghost use Rattle.rdf_terms.specs.declared.term.Quad.{Quad};
-ghost use Rattle.page_controls.specs.Vocabulary.{total_items, void_triples};
-ghost use Rattle.page_controls.specs.Controls.{is_count_text, IsNumber, IsCount};
+ghost use Rattle.control_triples.specs.Vocabulary.{total_items, void_triples};
+ghost use Rattle.control_triples.specs.Controls.{IsCount};
 ghost use Rattle.page_controls.specs.Outcomes.{Answers};
-ghost use Rattle.page_controls.specs.Parts.{objects_in};
-ghost use Rattle.page_controls.specs.Ranges.{length_order};
+ghost use Rattle.control_triples.specs.Parts.{objects_in};
+ghost use Rattle.control_triples.specs.Ranges.{length_order};
 ghost use Rattle.page_controls.specs.Counts.{WhyNoCount, AreCounts};
 
-use crate::controls::Controls;
-use crate::vocabulary::{total_items, void_triples};
+use control_triples::{Controls, number, total_items, void_triples};
 use fragment_page::PageFault;
 use rdf_terms::{Term, Triple};
 use std::alloc::Global;
-use tpf_base::{MOST_DIGITS, OutOfMemory};
-
-fn are_digits(bytes: &[u8]) -> bool
-    ensures { result ≡ list_all is_ascii_digit bytes.now }
-{
-    bytes.iter().all(|b| b.is_ascii_digit())
-}
-
-pub(crate) fn is_count_text(digits: &[u8]) -> bool
-    ensures { result ≡ is_count_text digits.now }
-{
-    digits.len() >= 1 && (digits.len() <= MOST_DIGITS && are_digits(digits))
-}
-
-/// The number that up to `MOST_DIGITS` digits write.
-fn value_of(digits: &str) -> Option<u64>
-    requires { is_count_text digits.now ≡ true }
-    ensures { result ≡ Some (digits_value 10 digits.now) }
-{
-    digits.parse::<u64>().ok()
-}
-
-/// The number that a text of 1 to `MOST_DIGITS` (19) digits writes; no other text is one.
-pub fn number_of_digits(digits: &str) -> Option<u64>
-    ensures { MatchOption result (is_count_text digits.now ≡ false)
-        (λ n. (is_count_text digits.now ≡ true) × (n ≡ digits_value 10 digits.now)) }
-{
-    if is_count_text(digits.as_bytes()) {
-        value_of(digits)
-    } else {
-        None
-    }
-}
-
-/// The number that a literal of 1 to `MOST_DIGITS` digits is.
-pub(crate) fn number(term: &Term) -> Option<u64>
-    ensures { MatchOption result ((n : ℕ) → IsNumber term.now n → ⊥) (λ n. IsNumber term.now n) }
-{
-    let Term::Literal { form, .. } = term else {
-        return None;
-    };
-    number_of_digits(form.as_str())
-}
+use tpf_base::OutOfMemory;
 
 /// What hydra:totalItems gives of the topic, and only where that is nothing what void:triples gives.
 fn count_objects<'b, 'a>(

@@ -19,19 +19,10 @@
 //! ```
 #![tactic(auto)]
 
-mod controls;
 mod count;
 mod form;
 mod link;
-mod mark;
-mod order;
 mod told;
-mod topic;
-mod variable;
-mod version;
-mod vocabulary;
 
-pub use count::number_of_digits;
 pub use link::is_home;
-pub use mark::first_marks;
 pub use told::{PageControls, Told, read_controls};

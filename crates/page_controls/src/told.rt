@@ -1,20 +1,18 @@
 // What the quads of a body tell of its page.
 ghost use Rattle.std.specs.Prelude.{◌≡◌};
 ghost use Rattle.tpf_base.specs.Addresses.{authority_of};
-ghost use Rattle.page_controls.specs.Contents.{page_triples};
-ghost use Rattle.page_controls.specs.Marks.{marked};
+ghost use Rattle.control_triples.specs.Contents.{page_triples};
+ghost use Rattle.control_triples.specs.Marks.{marked};
 ghost use Rattle.page_controls.specs.Outcomes.{Answers};
 ghost use Rattle.page_controls.specs.Stages.{TakesControls, FirstAmiss, IsTopicTerm, TakesPage, WhyNoPage};
-ghost use Rattle.page_controls.specs.Parts.{abouts, abouts_of};
+ghost use Rattle.control_triples.specs.Parts.{abouts, abouts_of};
 
-use crate::controls::{Controls, controls_in};
 use crate::count::read_count;
 use crate::form::find_form;
 use crate::link::{check_home, read_next};
-use crate::mark::first_marks;
-use crate::topic::{GraphTopic, find_topic, topics_of};
-use crate::version::read_version;
-use crate::vocabulary::iri;
+use control_triples::{
+    Controls, GraphTopic, controls_in, find_topic, first_marks, iri, read_version, topics_of,
+};
 use fragment_page::PageFault;
 use rdf_terms::{Quad, Term};
 use std::alloc::Global;

@@ -23,11 +23,12 @@ use file_server::server_of_file;
 use fragment_server::{FragmentConnection, FragmentServer};
 use group_parser::Asked;
 use loop_wire::LoopWire;
+use single_query::query as query_server;
 use std::alloc::Global;
 use std::sync::Wait;
 use template_fill::WebAddress;
 use tpf_base::{Failing, Shelf, Sink};
-use tpf_client::{ClientFault, Options, Report, query as query_server};
+use tpf_client::{ClientFault, Options, Report};
 use triple_table::Choice;
 
 /// What is asked of a file in the same process.

@@ -9,11 +9,12 @@ use crate::{AnswerFault, laws};
 use data_files::read_query;
 use group_parser::Asked;
 use group_patterns::answer;
+use single_query::query as query_server;
 use std::alloc::Global;
 use std::sync::Wait;
 use template_fill::WebAddress;
 use tpf_base::{Dial, Shelf, Sink};
-use tpf_client::{Options, Report, query as query_server};
+use tpf_client::{Options, Report};
 
 /// Reads the query of a file and asks the server of a start page over a wire for its answer, whose text
 /// (SPARQL 1.1 Query Results JSON Format) goes to the output. At each exit the connections that were given

@@ -1,13 +1,9 @@
-//! A query over a wire: the pages of a server are asked for, joined, and written as the text of a result or gathered in a list.
-//!
-//! A query that has no groups, the address of any fragment of the server, a wire to dial it and a sink for the text of the
-//! result. `query` is imported as `query_server` here:
+//! A query over a wire: the pages of servers are asked for as an evaluation of the query wants them, and its rows are written
+//! as the text of a result or gathered in a list. Whose pages are joined, and how, the evaluation says: that over one server is
+//! `Join` of `join_core` (calls in `single_query`), that over several `Federation` of `federation` (in `federated_query`):
 //!
 //! ```rust
-//! Asked::Plain(query) => {
-//!     let _patterns = query.patterns();
-//!     answered(query_server(rt, alloc, &query, start, options, wire, out))
-//! }
+//! evaluate_to::<_, Join, _, _>(rt, alloc, query, slice::from_ref(start), options, wire, out)
 //! ```
 #![tactic(auto)]
 
@@ -21,7 +17,7 @@ mod rows;
 mod start;
 mod turns;
 
-pub use calls::{collect, evaluate_rows, evaluate_to, query};
+pub use calls::{evaluate_rows, evaluate_to};
 pub use fault::{ClientFault, of_sink};
 pub use options::{Options, Report};
 pub use request_plan::BlockSize;

@@ -1,6 +1,6 @@
 use Rattle.std.proofs.Common.{◌≡◌, List, subst}
 use Rattle.rdf_terms.specs.declared.term.Quad.{Quad}
-use Rattle.page_controls.specs.Contents.{firsts}
+use Rattle.control_triples.specs.Contents.{firsts}
 use Rattle.control_reader.specs.Ascending.{triples_of}
 use Rattle.control_reader.proofs.Distinct.{all_taken}
 use Rattle.control_reader.proofs.own.distinct_triples.Goals as goal

@@ -1,5 +1,5 @@
 use Rattle.std.proofs.Common.{refl, arith, inl, inr}
-use Rattle.page_controls.specs.Controls.{IsCountObject}
+use Rattle.control_triples.specs.Controls.{IsCountObject}
 use Rattle.page_controls.proofs.Counted.{none_of, two_of, only_item}
 use Rattle.page_controls.proofs.count.count_of.Goals as goal
 

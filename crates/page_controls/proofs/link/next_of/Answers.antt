@@ -1,6 +1,6 @@
 use Rattle.std.proofs.Common.{refl, arith, inl, inr}
 use Rattle.std.proofs.lemmas.Result.{err_from_is_err_and}
-use Rattle.page_controls.specs.Controls.{IsNextObject}
+use Rattle.control_triples.specs.Controls.{IsNextObject}
 use Rattle.page_controls.proofs.Counted.{none_of, two_of, only_item, next_fault}
 use Rattle.tpf_base.specs.Addresses.{authority_of}
 use Rattle.page_controls.proofs.link.next_of.Goals as goal

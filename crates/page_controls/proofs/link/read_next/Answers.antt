@@ -3,8 +3,8 @@ use Rattle.std.specs.Prelude.{◌↔◌}
 use Rattle.std.specs.List.{Contains}
 use Rattle.rdf_terms.specs.declared.term.Term.{Term}
 use Rattle.rdf_terms.specs.declared.term.Term.TheVariants.{Iri}
-use Rattle.page_controls.specs.Controls.{Says}
-use Rattle.page_controls.specs.Parts.{objects_in}
+use Rattle.control_triples.specs.Controls.{Says}
+use Rattle.control_triples.specs.Parts.{objects_in}
 use Rattle.page_controls.proofs.link.read_next.Goals as goal
 
 pub returns : goal.returns

@@ -1,7 +1,7 @@
 use Rattle.std.proofs.Common.{refl, ap, ◌∙◌, inl, inr, List, ℕ}
 use Rattle.rdf_terms.specs.declared.term.Term.TheVariants.{Iri}
 use Rattle.tpf_base.specs.Addresses.{address_text}
-use Rattle.page_controls.specs.Parts.{abouts}
+use Rattle.control_triples.specs.Parts.{abouts}
 use Rattle.page_controls.proofs.told.read_controls.Goals as goal
 
 pub returns-in_default : goal.returns-in_default

@@ -1,0 +1,11 @@
+pub mod Topics
+pub mod Controlled
+pub mod LengthOrder
+pub mod Ranged
+pub mod Steps
+pub mod Sorted
+pub mod Variabled
+pub mod Firsts
+pub mod Numbers
+pub mod Versioned
+pub mod Formed

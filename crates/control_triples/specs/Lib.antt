@@ -1,0 +1,12 @@
+pub mod Vocabulary
+pub mod Controls
+pub mod Contents
+pub mod Parts
+pub mod Ranges
+pub mod LengthLaws
+pub mod KeyLaws
+pub mod Variables
+pub mod Places
+pub mod Seen
+pub mod Versions
+pub mod Marks

@@ -1,7 +1,0 @@
-use Rattle.std.proofs.Common.{ap, ◌∙◌}
-use Rattle.std.specs.Result.{result_ok}
-use Rattle.page_controls.proofs.Numbers.{value_parsed}
-use Rattle.page_controls.proofs.count.value_of.Goals as goal
-
-pub returns : goal.returns
-returns c = c.ok.ensures.value ∙ ap result_ok (value_parsed c.args.digits.now c.parse.result c.requires c.parse.ensures.value.0)

@@ -1,7 +1,0 @@
-use Rattle.std.proofs.Common.{◌≡◌, drop}
-use Rattle.std.specs.List.{list_any}
-use Rattle.page_controls.specs.Parts.{has_same_topic}
-use Rattle.page_controls.proofs.topic.same_topic.Given as goal
-
-abbrev pub invariant-loop-found : goal.invariant-loop-found
-invariant-loop-found l = list_any (has_same_topic l.own) l.topics ≡ list_any (has_same_topic l.own) (drop l.found-index l.topics)
