@@ -112,10 +112,7 @@ pub fn find_topic<'a>(topics: &[GraphTopic<'a>], own: &Term) -> Option<&'a Term>
 }
 
 /// What the quads of a body say their named graphs are about, in the order of the quads. The only error is out of memory.
-pub fn topics_of<'a>(
-    alloc: Global,
-    quads: &'a [Quad],
-) -> Result<Vec<GraphTopic<'a>>, OutOfMemory>
+pub fn topics_of<'a>(alloc: Global, quads: &'a [Quad]) -> Result<Vec<GraphTopic<'a>>, OutOfMemory>
     ensures { IfOk result (λ v. abouts v.items ≡ abouts_of quads.entry.now) }
 {
     let primary = primary_topic(alloc)?;
