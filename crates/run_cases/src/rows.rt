@@ -2,10 +2,11 @@
 ghost use Rattle.std.specs.Prelude.{◌≡◌};
 
 use case_rows::{Answers, Case, CaseFault, run as run_rows};
-use run_case_rows::{
-    Looped, Outcome, Runs, Scripted, Together, alone, changing, command, each_byte, each_call,
-    each_write, fronts, sent_over, shown_over, traffic,
+use run_case_answers::{
+    Looped, Scripted, Together, alone, changing, command, each_byte, each_call, each_write, fronts,
+    sent_over, shown_over, traffic,
 };
+use run_case_rows::{Outcome, Runs};
 use std::alloc::Global;
 use std::rt::Files;
 use std::sync::Wait;

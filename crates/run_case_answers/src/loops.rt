@@ -1,16 +1,13 @@
 // Runs over a wire in one process.
 use crate::door::WithDoor;
 use crate::faults::{Numbered, failures};
-use crate::outcomes::Outcome;
-use crate::program::{Runs, ended_on};
-use crate::sent::push_sent;
-use crate::setups::{Failure, Setup, failure_of};
 use crate::wires::Over;
 use case_rows::{Case, CaseFault};
 use file_server::server_of_file;
 use fragment_server::{FragmentConnection, FragmentServer};
 use hydra_controls::Config;
 use loop_wire::{Behind, LoopWire, Several};
+use run_case_rows::{Failure, Outcome, Runs, Setup, ended_on, failure_of, push_sent};
 use std::alloc::Global;
 use template_fill::WebAddress;
 use tpf_base::{Bytes, MemShelf, Text, USUAL_PAGE};

@@ -1,8 +1,6 @@
 // Runs whose output fails at each place, or whose dials fail.
-use crate::outcomes::Outcome;
-use crate::program::{Runs, ended, ended_by, seeded};
-use crate::setups::{Failure, Setup, setup_of};
 use case_rows::{Case, CaseFault, number_text, word_text};
+use run_case_rows::{Failure, Outcome, Runs, Setup, ended, ended_by, seeded, setup_of};
 use std::alloc::Global;
 
 /// Whether a run whose output failed ended as one does, and the output has less than the whole text.

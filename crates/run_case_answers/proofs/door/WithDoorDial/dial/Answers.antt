@@ -1,5 +1,5 @@
-use Rattle.run_case_rows.proofs.Doors.{gives_ok, gives_none_err, only_dials, dials_steadily}
-use Rattle.run_case_rows.proofs.door.WithDoorDial.dial.Goals as goal
+use Rattle.run_case_answers.proofs.Doors.{gives_ok, gives_none_err, only_dials, dials_steadily}
+use Rattle.run_case_answers.proofs.door.WithDoorDial.dial.Goals as goal
 
 pub returns-clause-ok : goal.returns-clause-ok
 returns-clause-ok g c = gives_ok c.args.self.now.calls _ _ _ _ c.dial.ensures.ok

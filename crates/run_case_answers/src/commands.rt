@@ -1,7 +1,7 @@
 // The words of the command line, and the commands that they are.
-use crate::setups::words_of;
 use case_rows::{Case, CaseFault, word_text};
 use command_words::{ClientWords, Command, FederateWords, LocalWords, ServeWords, command_of};
+use run_case_rows::words_of;
 use std::alloc::Global;
 use tpf_base::Text;
 use triple_table::Choice;

@@ -59,7 +59,7 @@ fn rest_of(contents: &[Vec<u8>], which: usize, read: usize) -> &[u8] {
 }
 
 impl Shelf for ChangingShelf {
-    ghost use Rattle.run_case_rows.specs.Doors.{untold_shelf};
+    ghost use Rattle.run_case_answers.specs.Doors.{untold_shelf};
 
     ghost state = { λ s. untold_shelf s.asked.names s.given s.faults };
 

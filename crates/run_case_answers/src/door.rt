@@ -18,7 +18,7 @@ impl<W: Dial + Drop> WithDoor<W> {
 }
 
 impl<W: Dial + Drop> Wire for WithDoor<W> {
-    ghost use Rattle.run_case_rows.specs.Doors.{with_calls};
+    ghost use Rattle.run_case_answers.specs.Doors.{with_calls};
 
     ghost state = { λ w. with_calls w.calls (W.state w.wire) };
 

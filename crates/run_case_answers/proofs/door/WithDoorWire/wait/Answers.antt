@@ -1,5 +1,5 @@
-use Rattle.run_case_rows.proofs.Doors.{wakes_ok, gives_none_err, only_waits, waits_steadily}
-use Rattle.run_case_rows.proofs.door.WithDoorWire.wait.Goals as goal
+use Rattle.run_case_answers.proofs.Doors.{wakes_ok, gives_none_err, only_waits, waits_steadily}
+use Rattle.run_case_answers.proofs.door.WithDoorWire.wait.Goals as goal
 
 pub returns-clause-ok : goal.returns-clause-ok
 returns-clause-ok g c = wakes_ok c.args.self.now.calls _ _ _ c.wait.ensures.ok

@@ -1,8 +1,6 @@
 // Runs over a wire that gives no link.
-use crate::outcomes::{Show, show_of};
-use crate::program::{Runs, ended, seeded};
-use crate::setups::{Setup, setup_of};
 use case_rows::{Case, CaseFault, word_text};
+use run_case_rows::{Runs, Setup, Show, ended, seeded, setup_of, show_of};
 use std::alloc::Global;
 
 /// What is shown of the run with this seed.

@@ -6,7 +6,7 @@ use Rattle.tpf_base.specs.declared.wire.Ready.{Ready}
 use Rattle.tpf_base.specs.declared.wire.Ready.TheVariants as ready
 use Rattle.tpf_base.specs.Links.{Door, WireState}
 use Rattle.tpf_base.specs.Calls.{OnlyOn, SameWire, Sends, Receives, Closes, Gives, GivesNone, OnlyDials, DialsSteadily, OnlyWaits, Wakes, WakesRipe, WaitsSteadily}
-use Rattle.run_case_rows.specs.Doors.{with_calls}
+use Rattle.run_case_answers.specs.Doors.{with_calls}
 
 module _ (calls : ℕ) (old new : WireState) where
   abbrev one : WireState

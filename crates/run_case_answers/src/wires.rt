@@ -1,10 +1,9 @@
 // Runs over wires of scripts.
 use crate::changing_shelf::ChangingShelf;
-use crate::outcomes::{Outcome, show_of};
-use crate::program::{Runs, ended_on};
-use crate::sent::push_sent;
-use crate::setups::{Failure, Setup, failure_of, setup_of, words_of};
 use case_rows::{Case, CaseFault};
+use run_case_rows::{
+    Failure, Outcome, Runs, Setup, ended_on, failure_of, push_sent, setup_of, show_of, words_of,
+};
 use script_wire::{Script, ScriptWire};
 use std::alloc::Global;
 use tpf_base::Bytes;
