@@ -1,15 +1,36 @@
 // A server of echoes over links that do what scripts say.
-use crate::links::{ENDING, Link, STAYING, sent, wire_of};
-use crate::serving::{Service, ended_after};
-use connections::{Converses, NoSupply};
+use crate::fails::Fails;
+use crate::links::{ABC, ENDING, Link, STAYING, scripts_of};
+use connections::NoSupply;
 use echo_server::{Echo, EchoServer};
 use script_wire::ScriptWire;
-use serve_loop::{ServeFault, serve};
+use serve_loop::{ServeFault, Served, serve};
 use std::alloc::Global;
 use std::process::Abort;
 use std::sync::Wait;
 use std::test::Fail;
-use tpf_base::{Accept, Failing};
+use tpf_base::Accept;
+
+/// What a service answers at the door of a wire; nothing where the door does not open.
+type Service = Option<Result<Served, ServeFault>>;
+
+/// What a service answers that ended after one connection, which did not end for want of memory.
+const ONE_ENDED: Service = Some(Ok(Served {
+    connections: 1,
+    starved: 0,
+}));
+
+/// The same after two connections.
+const TWO_ENDED: Service = Some(Ok(Served {
+    connections: 2,
+    starved: 0,
+}));
+
+/// The same after three.
+const THREE_ENDED: Service = Some(Ok(Served {
+    connections: 3,
+    starved: 0,
+}));
 
 /// Serves echoes at the door of a wire with these scripts until so many connections have ended.
 fn echoed<R: Wait>(rt: &R, alloc: Global, wire: &mut ScriptWire, stop_after: u64) -> Service {
@@ -21,26 +42,6 @@ fn echoed<R: Wait>(rt: &R, alloc: Global, wire: &mut ScriptWire, stop_after: u64
     Some(serve::<_, Echo, _, _>(rt, alloc, &mut server, &mut supply, wire, Some(stop_after)))
 }
 
-fn is_handed_over<R: Abort>(rt: &R, echo: &mut Echo) {
-    assert_eq!(rt; echo.pending().len(), 3);
-    echo.take(2);
-    assert_eq!(rt; echo.pending(), b"c".as_slice());
-}
-
-fn feed_echo<R: Abort>(rt: &R, server: &EchoServer, echo: &mut Echo) -> Result<(), Fail> {
-    echo.feed(server, b"abc")?;
-    echo.fill(server)?;
-    is_handed_over(rt, echo);
-    Ok(())
-}
-
-#[test]
-fn an_echo_hands_over_what_it_was_fed(rt: HostRuntime) -> Result<(), Fail> {
-    let server = EchoServer::new(7);
-    let mut echo = Echo::new(rt.alloc());
-    feed_echo(&rt, &server, &mut echo)
-}
-
 /// From one link up to another, the text that is sent on each.
 struct Sent<'a>(usize, usize, &'a str);
 
@@ -50,20 +51,28 @@ struct Case<'a> {
     shows: &'a str,
     /// What comes on the links.
     links: &'a [Link<'a>],
-    /// The numbers of the calls that fail.
-    failing: &'a [u64],
+    /// Which calls fail.
+    fails: Fails,
     /// After how many connections it stops.
     stop_after: u64,
-    /// The fault with which it ends, where it does not end after so many connections, none of
-    /// them for want of memory.
-    fault: Option<ServeFault>,
+    /// What it answers.
+    ended: Service,
     /// How many links are given.
     given: usize,
     /// What is sent on them.
     sent: &'a [Sent<'a>],
 }
 
-static CASES: [Case; 9] = [
+static CASES: [Case; 10] = [
+    Case {
+        shows: "what a send did not take is sent by the next one",
+        links: &[Link { most: 2, ..ABC }],
+        fails: Fails::Never,
+        stop_after: 1,
+        ended: ONE_ENDED,
+        given: 1,
+        sent: &[Sent(0, 1, "abc")],
+    },
     Case {
         shows: "links whose bytes come by turns get their own back",
         links: &[
@@ -77,9 +86,9 @@ static CASES: [Case; 9] = [
                 ..ENDING
             },
         ],
-        failing: &[],
+        fails: Fails::Never,
         stop_after: 2,
-        fault: None,
+        ended: TWO_ENDED,
         given: 2,
         sent: &[Sent(0, 1, "abcd"), Sent(1, 2, "12345")],
     },
@@ -96,40 +105,34 @@ static CASES: [Case; 9] = [
                 ..ENDING
             },
         ],
-        failing: &[],
+        fails: Fails::Never,
         stop_after: 1,
-        fault: None,
+        ended: ONE_ENDED,
         given: 2,
         sent: &[Sent(0, 1, ""), Sent(1, 2, "1234")],
     },
     Case {
         shows: "a door that fails ends the service",
-        links: &[Link {
-            pieces: &["abc"],
-            ..ENDING
-        }],
-        failing: &[2],
+        links: &[ABC],
+        fails: Fails::At(&[2]),
         stop_after: 1,
-        fault: Some(ServeFault::Wire),
+        ended: Some(Err(ServeFault::Wire)),
         given: 0,
         sent: &[],
     },
     Case {
         shows: "a door that fails behind a turn ends the service",
         links: &[
-            Link {
-                pieces: &["abc"],
-                ..ENDING
-            },
+            ABC,
             Link {
                 pieces: &["12"],
                 ..ENDING
             },
         ],
         // The listen, an accept, a receive, and then the accept behind that turn.
-        failing: &[4],
+        fails: Fails::At(&[4]),
         stop_after: 1,
-        fault: Some(ServeFault::Wire),
+        ended: Some(Err(ServeFault::Wire)),
         given: 1,
         sent: &[],
     },
@@ -141,19 +144,16 @@ static CASES: [Case; 9] = [
             pieces: &["a"],
             ..ENDING
         }],
-        failing: &[],
+        fails: Fails::Never,
         stop_after: 1,
-        fault: None,
+        ended: ONE_ENDED,
         given: 20,
         sent: &[],
     },
     Case {
         shows: "a link that fails ends alone",
         links: &[
-            Link {
-                pieces: &["abc"],
-                ..ENDING
-            },
+            ABC,
             Link {
                 pieces: &["12", "34"],
                 ..ENDING
@@ -166,9 +166,9 @@ static CASES: [Case; 9] = [
         ],
         // The listen, an accept, a receive, three accepts behind that turn, an accept, and the
         // send on the first link.
-        failing: &[8],
+        fails: Fails::At(&[8]),
         stop_after: 3,
-        fault: None,
+        ended: THREE_ENDED,
         given: 3,
         sent: &[Sent(0, 1, ""), Sent(1, 2, "1234"), Sent(2, 3, "xy")],
     },
@@ -185,9 +185,9 @@ static CASES: [Case; 9] = [
                 ..STAYING
             },
         ],
-        failing: &[],
+        fails: Fails::Never,
         stop_after: 1,
-        fault: None,
+        ended: ONE_ENDED,
         given: 40,
         // All are stepped in the first three turns, in which they are new, and then 32 to 39, 0 to
         // 15, 16 to 31, 32 to 39, and 0 to 15, where the first link ends.
@@ -211,9 +211,9 @@ static CASES: [Case; 9] = [
                 ..ENDING
             },
         ],
-        failing: &[],
+        fails: Fails::Never,
         stop_after: 2,
-        fault: None,
+        ended: TWO_ENDED,
         given: 257,
         // It was answered in the two turns behind its accept; its end was seen when its place in
         // the round came.
@@ -232,29 +232,22 @@ static CASES: [Case; 9] = [
                 ..STAYING
             },
         ],
-        failing: &[],
+        fails: Fails::Never,
         stop_after: 1,
-        fault: None,
+        ended: ONE_ENDED,
         given: 256,
         sent: &[],
     },
 ];
 
-impl<'a> Case<'a> {
-    /// What its service answers.
-    fn wanted(&self) -> Service {
-        match self.fault {
-            Some(fault) => Some(Err(fault)),
-            None => ended_after(self.stop_after),
-        }
-    }
-}
-
 /// The first of some links on which another text was sent.
 fn first_unlike(wire: &ScriptWire, wanted: &Sent) -> Option<usize> {
     let Sent(from, to, text) = wanted;
     for i in *from..*to {
-        if sent(wire, i) != text.as_bytes() {
+        if i >= wire.links() {
+            return Some(i);
+        }
+        if wire.sent_on(i) != text.as_bytes() {
             return Some(i);
         }
     }
@@ -272,16 +265,13 @@ fn unlike(wire: &ScriptWire, wanted: &[Sent]) -> Option<usize> {
 }
 
 /// Serves echoes at the wire of a case, and what comes of it is what the case says.
-fn echo_to<R: Wait + Abort>(rt: &R, alloc: Global, wire: &mut ScriptWire, case: &Case) {
-    let ended = echoed(rt, alloc, wire, case.stop_after);
-    let came = (ended, wire.links(), unlike(wire, case.sent));
-    assert_eq!(rt; came, (case.wanted(), case.given, None), "{}", case.shows);
-}
-
 fn run_case<R: Wait + Abort>(rt: &R, alloc: Global, case: &Case) -> Result<(), Fail> {
-    let failing = Failing::At(Vec::from_slice(alloc, case.failing)?);
-    let mut wire = wire_of(alloc, case.links, failing)?;
-    echo_to(rt, alloc, &mut wire, case);
+    let scripts = scripts_of(alloc, case.links)?;
+    let failing = case.fails.failing(alloc)?;
+    let mut wire = ScriptWire::new(alloc, scripts, failing);
+    let ended = echoed(rt, alloc, &mut wire, case.stop_after);
+    let came = (ended, wire.links(), unlike(&wire, case.sent));
+    assert_eq!(rt; came, (case.ended, case.given, None), "{}", case.shows);
     Ok(())
 }
 

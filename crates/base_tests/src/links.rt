@@ -1,8 +1,8 @@
 // Links that do what scripts say.
-use script_wire::{Script, ScriptWire};
+use script_wire::Script;
 use std::alloc::Global;
 use std::test::Fail;
-use tpf_base::{Bytes, Failing};
+use tpf_base::Bytes;
 
 /// What a peer does on a link.
 #[derive(Clone, Copy)]
@@ -34,6 +34,12 @@ pub const STAYING: Link = Link {
     ..ENDING
 };
 
+/// A link on which one piece comes, and then the end.
+pub const ABC: Link = Link {
+    pieces: &["abc"],
+    ..ENDING
+};
+
 fn script(alloc: Global, link: &Link) -> Result<Script, Fail> {
     let mut pieces = Vec::new(alloc);
     for piece in link.pieces {
@@ -48,7 +54,7 @@ fn script(alloc: Global, link: &Link) -> Result<Script, Fail> {
 }
 
 /// The scripts of these links.
-fn scripts_of(alloc: Global, links: &[Link]) -> Result<Vec<Script>, Fail> {
+pub fn scripts_of(alloc: Global, links: &[Link]) -> Result<Vec<Script>, Fail> {
     let mut scripts = Vec::new(alloc);
     for link in links {
         for _ in 0..link.times {
@@ -56,19 +62,4 @@ fn scripts_of(alloc: Global, links: &[Link]) -> Result<Vec<Script>, Fail> {
         }
     }
     Ok(scripts)
-}
-
-/// A wire with these links.
-pub fn wire_of(alloc: Global, links: &[Link], failing: Failing) -> Result<Box<ScriptWire>, Fail> {
-    let scripts = scripts_of(alloc, links)?;
-    Ok(Box::new(alloc, ScriptWire::new(alloc, scripts, failing))?)
-}
-
-/// What was sent on a link, and nothing where it was not given.
-pub fn sent(wire: &ScriptWire, link: usize) -> &[u8] {
-    if link < wire.links() {
-        wire.sent_on(link)
-    } else {
-        &[]
-    }
 }
