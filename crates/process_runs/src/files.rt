@@ -92,7 +92,6 @@ fn find_and_count<R: Files + AllocGlobal + Clone + Drop>(rt: &R) -> io::Result<(
 
 /// Finds and drops files, and prints how many of them were held open at most.
 pub fn found_and_dropped<R: Files + Print + AllocGlobal + Clone + Drop>(rt: &R) -> io::Result<()> {
-    println!(rt; "files that are found and dropped")?;
     let (found, held) = find_and_count(rt)?;
     println!(rt; "found: {found}")?;
     println!(rt; "held open: {held}")?;

@@ -7,15 +7,17 @@
 //! let all_right = answer_rows(&rt);
 //! let reported = report(&rt);
 //! ```
+//!
+//! Each run is a row of `processes.jsonl`, with steps that are taken in their order. They start programs, speak on connections
+//! to servers, and print what is to be seen.
 #![tactic(auto)]
 
 mod answers;
-mod blocks;
-mod cases;
-mod edge;
+mod connections;
 mod files;
+mod held;
 mod programs;
-mod served;
-mod together;
+mod rows;
+mod steps;
 
-pub use cases::report;
+pub use rows::report;
