@@ -1,4 +1,0 @@
-use Rattle.client_tests.proofs.ending.add_one_more.Goals as goal
-
-pub add_steps-requires : goal.add_steps-requires
-add_steps-requires g c = record { suits = c.put_all.ensures.suits _ (c.requires.suits _) }

@@ -1,4 +1,0 @@
-use Rattle.client_tests.proofs.pooling.pool_of.Goals as goal
-
-pub returns : goal.returns
-returns c = record { suits = λ wire. c.put_all.ensures.suits wire (c.new-pool.ensures.suits wire) }
