@@ -1,3 +1,4 @@
+pub mod Only
 pub mod Topics
 pub mod Controlled
 pub mod LengthOrder

@@ -22,7 +22,7 @@ use Rattle.page_controls.specs.Counts.{WhyNoNext, IsNoLink}
 use Rattle.page_controls.specs.Outcomes.{IsFaultOf}
 use Rattle.control_triples.specs.Ranges.{length_order}
 use Rattle.control_triples.specs.LengthLaws.{length_total}
-use Rattle.page_controls.proofs.Fine.{only_not_two}
+use Rattle.control_triples.proofs.Only.{only_not_two}
 use Rattle.control_triples.specs.Parts.{objects_in}
 
 module _ (P : Term → Type 0) where

@@ -17,18 +17,13 @@ use Rattle.template_fill.specs.declared.form.Form.{Form}
 use Rattle.fragment_page.specs.declared.page.PageFault.{PageFault}
 use Rattle.fragment_page.specs.declared.page.PageFault.TheVariants as faults
 use Rattle.control_triples.specs.Controls.{IsOnly, HasTwo, IsCountObject, IsNumber, IsCount, HasNoCount, HasBadCount, FormTexts, IsLiteral, IsForm, HasNoForm, IsLeastForm, IsLink, IsNextObject, IsNext, HasTwoNext, HasForeignNext, IsVersionObject, IsVersion}
+use Rattle.control_triples.proofs.Only.{only_not_two, only_one}
 use Rattle.page_controls.specs.Controls.{names_all, IsFormOf, HasBadTemplate, IsHome, IsForeign}
 use Rattle.control_triples.specs.Contents.{HasBlankData}
 use Rattle.page_controls.specs.Faults.{FindsForm, HasForeignForm, HasForeignLink, place_of}
 use Rattle.page_controls.specs.Outcomes.{IsFaultOf}
 use Rattle.page_controls.specs.Counts.{WhyNoCount, WhyNoNext, TakesForm, WhyNoForm}
 use Rattle.page_controls.specs.Stages.{IsAmiss, FirstAmiss}
-
-pub only_not_two : {X : Type 0} (P : X → Type 0) (x : X) → IsOnly P x → HasTwo P → ⊥
-only_not_two P x h two = two.4 (h.1 two.0 two.2 ∙ sym (h.1 two.1 two.3))
-
-pub only_one : {X : Type 0} (P : X → Type 0) (x y : X) → IsOnly P x → IsOnly P y → x ≡ y
-only_one P x y h k = k.1 x h.0
 
 -- ---- the count
 

@@ -6,7 +6,7 @@ use Rattle.rdf_terms.specs.declared.term.Term.{Term}
 use Rattle.control_triples.specs.Vocabulary.{representation, rdf_subject, rdf_predicate, rdf_object}
 use Rattle.control_triples.specs.Controls.{Says, IsOnly, MapsTo}
 use Rattle.control_triples.specs.Parts.{objects_in}
-use Rattle.control_triples.proofs.Fine.{only_one}
+use Rattle.control_triples.proofs.Only.{only_one}
 use Rattle.control_triples.proofs.Formed.{other_object, no_other_object}
 use Rattle.control_triples.proofs.form.form_at.Goals as goal
 
