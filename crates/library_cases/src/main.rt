@@ -1,5 +1,5 @@
 //! Cases of the libraries: terms and N-Quads, queries, tables and fragments, addresses and pages, requests, replies and
-//! conversations. The rows stand in `data/`, and what they call in a library each.
+//! conversations, joins and federations. The rows stand in `data/`, and what they call in a library each.
 #![tactic(auto)]
 
 use std::process::ExitCode;
@@ -10,7 +10,8 @@ fn main(rt: HostRuntime) -> ExitCode {
     let tables = table_cases::answer_rows(&rt);
     let pages = page_cases::answer_rows(&rt);
     let servers = server_cases::answer_rows(&rt);
-    if texts && queries && tables && pages && servers {
+    let evaluations = evaluation_cases::answer_rows(&rt);
+    if texts && queries && tables && pages && servers && evaluations {
         ExitCode::SUCCESS
     } else {
         ExitCode::FAILURE
