@@ -5,8 +5,13 @@
 //! The solutions of a query over triples, the query being read by the parser above:
 //!
 //! ```rust
-//! let query = parse(alloc, query.as_bytes())?;
-//! Ok(solutions(alloc, triples, &query)?)
+//! let Ok(query) = parse(alloc, text) else {
+//!     return Err(CaseFault::Row);
+//! };
+//! match solutions(alloc, triples, &query) {
+//!     Ok(rows) => rows_text(alloc, &query, rows.as_slice()),
+//!     Err(_) => Err(CaseFault::OutOfMemory),
+//! }
 //! ```
 #![tactic(auto)]
 

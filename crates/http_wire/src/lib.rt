@@ -5,10 +5,12 @@
 //!
 //! ```rust
 //! let mut feed = ReplyFeed::new(alloc, 1000000);
-//! let _fed = feed.feed(response)?;
+//! if feed.feed(response).is_err() {
+//!     return Err(CaseFault::OutOfMemory);
+//! }
 //! match feed.take() {
 //!     Some(reply) => Ok(reply.body),
-//!     None => Err(Fail::new("no reply")),
+//!     None => Err(CaseFault::Row),
 //! }
 //! ```
 #![tactic(auto)]

@@ -2,16 +2,12 @@
 //! rows that come of it. It goes by the greedy strategy of Verborgh et al. (2016): the pattern
 //! whose fragment is the smallest goes first.
 //!
-//! One turn of a join, whose query has one pattern that one triple matches. The caller fetches the
-//! page, here of a server in memory, and may have other asks out meanwhile:
+//! A page that `next_ask` asked for. The caller fetches it, here of a server in memory, and may have
+//! other asks out meanwhile; rows that come of it are taken by `take_row`:
 //!
 //! ```rust
-//! let Some(ask) = run.join.next_ask(alloc)? else {
-//!     return Err(Fail::new("no ask"));
-//! };
-//! let page = page_at(alloc, &run.server, &ask.address)?;
-//! let answered = run.join.answer(alloc, ask.ticket, page)?;
-//! let row = run.join.take_row();
+//! let page = page_at(alloc, pages, &ask.address)?;
+//! Ok(join.answer(alloc, ask.ticket, page)?)
 //! ```
 #![tactic(auto)]
 

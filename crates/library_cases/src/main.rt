@@ -1,5 +1,5 @@
 //! Cases of the libraries: terms and N-Quads, queries, tables and fragments, addresses and pages, requests, replies and
-//! conversations, exchanges and pools. The rows stand in `data/`, and what they call in a library each.
+//! conversations, exchanges and pools, joins and federations. The rows stand in `data/`, and what they call in a library each.
 #![tactic(auto)]
 
 use std::process::ExitCode;
@@ -11,7 +11,8 @@ fn main(rt: HostRuntime) -> ExitCode {
     let pages = page_cases::answer_rows(&rt);
     let servers = server_cases::answer_rows(&rt);
     let clients = client_cases::answer_rows(&rt);
-    if texts && queries && tables && pages && servers && clients {
+    let evaluations = evaluation_cases::answer_rows(&rt);
+    if texts && queries && tables && pages && servers && clients && evaluations {
         ExitCode::SUCCESS
     } else {
         ExitCode::FAILURE
