@@ -90,14 +90,13 @@ impl Played {
     fn hears_word(&mut self, link: u64, room: usize, word: &str) -> bool {
         let mut buffer = [0u8; 8];
         let answer = self.recv(link, &mut buffer[..room.min(8)]);
-        let heard = match answer {
-            Moved::Moved(n) => str::from_utf8(&buffer[..n]).unwrap_or("?"),
-            Moved::End => ".",
-            Moved::NotYet => "-",
-            Moved::Failed => "F",
-            Moved::OutOfMemory => "M",
-        };
-        heard == word
+        match answer {
+            Moved::Moved(n) => word.as_bytes() == &buffer[..n],
+            Moved::End => word == ".",
+            Moved::NotYet => word == "-",
+            Moved::Failed => word == "F",
+            Moved::OutOfMemory => word == "M",
+        }
     }
 
     /// Whether receives give what the words say, one each.
