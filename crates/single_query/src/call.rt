@@ -1,5 +1,5 @@
 // The calls.
-ghost use Rattle.std.specs.Prelude.{◌≡◌, [], ◌∷◌, true, IfOk, IfErr, OnErr, IsErrOf};
+ghost use Rattle.std.specs.Prelude.{ℕ, ◌≡◌, [], ◌∷◌, true, IfOk, IfErr, OnErr, IsErrOf};
 ghost use Rattle.tpf_base.specs.Causes.{Rose};
 ghost use Rattle.tpf_base.specs.Links.{SameAllowed};
 ghost use Rattle.tpf_client.specs.Bounds.{SuitsCalls};
