@@ -13,10 +13,11 @@ ghost use Rattle.query_command.specs.Over.{IsUsual, AsksGeneratedOver};
 
 use crate::fault::answered;
 use crate::group_wire::ask_groups;
+use crate::laws;
 use crate::local_query::{OverWire, ask_server};
 use crate::start::{config_of, local_start};
-use crate::{AnswerFault, laws};
 use bgp_core::Query;
+use command_endings::{AnswerFault, Counts};
 use data_files::{DataFault, Grammar, read_query};
 use fragment_server::{FragmentConnection, FragmentServer};
 use generated_server::server_of_generated;
@@ -31,15 +32,6 @@ use tpf_base::{
     USUAL_WINDOW,
 };
 use tpf_client::{BlockSize, ClientFault, Options};
-
-/// What a query of generated data came to.
-#[derive(Clone, Copy, Debug, PartialEq, Eq)]
-pub struct Counts {
-    /// How many triples the data have, each counted once.
-    pub triples: u64,
-    /// How many rows the result has. It stands still at 2^64 - 1.
-    pub rows: u64,
-}
 
 /// What bounds a call where no option is given.
 fn usual_options() -> Options

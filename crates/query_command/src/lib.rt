@@ -30,8 +30,7 @@ mod server_query;
 mod servers_query;
 mod start;
 
-pub use fault::AnswerFault;
-pub use generated_query::{Counts, query_generated};
+pub use generated_query::query_generated;
 pub use local_query::{LocalQuery, local};
 pub use server_query::query;
 pub use servers_query::query_servers;

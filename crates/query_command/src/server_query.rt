@@ -5,7 +5,8 @@ ghost use Rattle.query_command.specs.Groups.{ServerAsked};
 
 use crate::blocks::grammar_of;
 use crate::fault::answered;
-use crate::{AnswerFault, laws};
+use crate::laws;
+use command_endings::AnswerFault;
 use data_files::read_query;
 use group_parser::Asked;
 use group_patterns::answer;

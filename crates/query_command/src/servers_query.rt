@@ -5,7 +5,8 @@ ghost use Rattle.tpf_client.specs.Bounds.{SuitsCalls};
 ghost use Rattle.federated_query.specs.Servers.{AreApart};
 ghost use Rattle.query_command.specs.Servers.{ServersAsked};
 
-use crate::{AnswerFault, laws};
+use crate::laws;
+use command_endings::AnswerFault;
 use data_files::read_patterns;
 use federated_query::federate;
 use std::alloc::Global;

@@ -20,9 +20,9 @@ use Rattle.data_files.specs.declared.fault.DataFault.{DataFault}
 use Rattle.data_files.specs.declared.fault.DataFault.TheVariants as data_faults
 use Rattle.data_files.specs.declared.fault.QueryFileFault.{QueryFileFault}
 use Rattle.data_files.specs.declared.fault.QueryFileFault.TheVariants as query_faults
-use Rattle.query_command.specs.declared.fault.AnswerFault.{AnswerFault}
-use Rattle.query_command.specs.declared.fault.AnswerFault.TheVariants as answers
-use Rattle.query_command.specs.declared.generated_query.Counts.{Counts}
+use Rattle.command_endings.specs.declared.fault.AnswerFault.{AnswerFault}
+use Rattle.command_endings.specs.declared.fault.AnswerFault.TheVariants as answers
+use Rattle.command_endings.specs.declared.fault.Counts.{Counts}
 use Rattle.query_command.specs.Groups.{group_plan_of, group_offer_of, MayEndGroup, FileAsked, ServerAsked, GeneratedAsked, Plain, Groups}
 use Rattle.query_command.specs.Generated.{usual_options, GeneratedCause}
 use Rattle.query_command.specs.Loops.{LocalView}
@@ -31,8 +31,8 @@ use Rattle.serve_command.specs.declared.fault.ServiceFault.{ServiceFault}
 use Rattle.serve_command.specs.declared.fault.ServiceFault.TheVariants as services
 use Rattle.query_command.specs.Servers.{ServersAsked}
 use Rattle.command_words.specs.Commands.{Command, Federated, local, query, federate, serve, make}
-use Rattle.tpf_cli.specs.Endings as ends
-use Rattle.tpf_cli.specs.Endings.{EndOfRun, data_status, query_status, client_status, fault_status, answer_status, service_status, made_status, counted_status, Says}
+use Rattle.command_endings.specs.Endings as ends
+use Rattle.command_endings.specs.Endings.{EndOfRun, data_status, query_status, client_status, fault_status, answer_status, service_status, made_status, counted_status, Says}
 use Rattle.tpf_cli.specs.Ranges.{IsInRange}
 use Rattle.tpf_cli.specs.Runs.{Around, WritesNumbers, CountsFile, DoesOf, unwritten, wire_inside, options_of, view_of}
 use Rattle.tpf_cli.specs.Promises.{IsAmong, local_statuses, server_statuses, statuses_of}

@@ -2,11 +2,11 @@
 use Rattle.std.proofs.Common.{ℕ, ◌≡◌, ◌<◌, ◌^◌, inl, inr, List, Option, Some, None, Result, refl, subst, arith}
 use Rattle.tpf_base.specs.Wrote.{SinkState}
 use Rattle.tpf_client.specs.declared.options.Report.{Report}
-use Rattle.query_command.specs.declared.fault.AnswerFault.{AnswerFault}
+use Rattle.command_endings.specs.declared.fault.AnswerFault.{AnswerFault}
 use Rattle.query_command.specs.Groups.{FileAsked}
 use Rattle.query_command.specs.Loops.{LocalView}
 use Rattle.command_words.specs.Commands.{Command, local, query, federate, serve, make}
-use Rattle.tpf_cli.specs.Endings.{EndOfRun, no_words, answered, Says}
+use Rattle.command_endings.specs.Endings.{EndOfRun, no_words, answered, Says}
 use Rattle.tpf_cli.specs.Ranges.{IsInRange}
 use Rattle.tpf_cli.specs.Runs.{Around, DoesOf, wire_inside, view_of}
 use Rattle.tpf_cli.specs.Promises.{OfAnswered}

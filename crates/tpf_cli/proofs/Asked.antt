@@ -16,14 +16,14 @@ use Rattle.tpf_client.specs.Bounds.{SuitsCalls}
 use Rattle.data_files.specs.declared.query.Grammar.TheVariants as grammars
 use Rattle.data_files.specs.Causes.{QueryDecides}
 use Rattle.data_files.specs.Kept.{KeepsSink}
-use Rattle.query_command.specs.declared.fault.AnswerFault.{AnswerFault}
-use Rattle.query_command.specs.declared.fault.AnswerFault.TheVariants as faults
-use Rattle.query_command.specs.declared.generated_query.Counts.{Counts}
+use Rattle.command_endings.specs.declared.fault.AnswerFault.{AnswerFault}
+use Rattle.command_endings.specs.declared.fault.AnswerFault.TheVariants as faults
+use Rattle.command_endings.specs.declared.fault.Counts.{Counts}
 use Rattle.query_command.specs.Groups.{GeneratedAsked}
 use Rattle.command_words.specs.declared.command.ClientWords.{ClientWords}
 use Rattle.tpf_cli.specs.Ranges.{IsClient}
 use Rattle.tpf_cli.specs.declared.top.Inside.{Inside}
-use Rattle.tpf_cli.specs.Endings.{EndOfRun}
+use Rattle.command_endings.specs.Endings.{EndOfRun}
 use Rattle.tpf_cli.proofs.Grouped.{generated_gives}
 use Rattle.tpf_cli.specs.Runs.{Makes, Writes, WritesNumbers, CountsFile, IsRead, GivesEnd, options_of, unwritten}
 

@@ -8,7 +8,7 @@ use Rattle.loop_wire.specs.Looped.{Looped}
 use Rattle.fragment_server.specs.declared.server.FragmentServer.{FragmentServer}
 use Rattle.tpf_client.specs.declared.options.Options.{Options}
 use Rattle.tpf_client.specs.declared.options.Report.{Report}
-use Rattle.query_command.specs.declared.fault.AnswerFault.{AnswerFault}
+use Rattle.command_endings.specs.declared.fault.AnswerFault.{AnswerFault}
 use Rattle.query_command.specs.Groups.{FileAsked, ServerAsked}
 use Rattle.command_words.specs.declared.command.ClientWords.{ClientWords}
 use Rattle.command_words.specs.declared.command.LocalWords.{LocalWords}
@@ -17,7 +17,7 @@ use Rattle.command_words.specs.declared.command.Command as declared_command
 use Rattle.query_command.specs.Servers.{ServersAsked}
 use Rattle.command_words.specs.Commands.{Command, Federated, local, query, federate}
 use Rattle.tpf_cli.specs.declared.top.Inside.TheVariants.{Unused}
-use Rattle.tpf_cli.specs.Endings.{usage, no_words, answered}
+use Rattle.command_endings.specs.Endings.{usage, no_words, answered}
 use Rattle.tpf_cli.specs.Runs.{Around, IsIdle, Does, DoesOf, asked_of, options_of, wire_inside}
 
 module _ (a : Around) where

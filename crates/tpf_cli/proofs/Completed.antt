@@ -26,9 +26,9 @@ use Rattle.data_files.specs.Causes.{GivesQuery}
 use Rattle.data_files.proofs.Outcomes.{one_outcome, one_query}
 use Rattle.file_server.specs.Servers.{serving}
 use Rattle.query_command.specs.Blocks.{grammar_of}
-use Rattle.query_command.specs.declared.fault.AnswerFault.{AnswerFault}
-use Rattle.query_command.specs.declared.fault.AnswerFault.TheVariants as answers
-use Rattle.query_command.specs.declared.generated_query.Counts.{Counts}
+use Rattle.command_endings.specs.declared.fault.AnswerFault.{AnswerFault}
+use Rattle.command_endings.specs.declared.fault.AnswerFault.TheVariants as answers
+use Rattle.command_endings.specs.declared.fault.Counts.{Counts}
 use Rattle.query_command.specs.Answers.{IsWanting}
 use Rattle.query_command.specs.Generated.{usual_options, usual_config}
 use Rattle.query_command.specs.Loops.{LocalView, local_config}
@@ -36,8 +36,8 @@ use Rattle.query_command.specs.Groups.{FileAsked, ServerAsked, GeneratedAsked, P
 use Rattle.query_command.proofs.Complete.{data_memory}
 use Rattle.command_words.specs.declared.command.ClientWords.{ClientWords}
 use Rattle.command_words.specs.Commands.{Command, local, query, federate, serve, make}
-use Rattle.tpf_cli.specs.Endings.{EndOfRun, data_status, query_status, client_status, fault_status, answer_status, counted_status, Says}
-use Rattle.tpf_cli.specs.Lines.{sizes_text}
+use Rattle.command_endings.specs.Endings.{EndOfRun, data_status, query_status, client_status, fault_status, answer_status, counted_status, Says}
+use Rattle.command_endings.specs.Lines.{sizes_text}
 use Rattle.tpf_cli.specs.Ranges.{IsInRange, IsTyped}
 use Rattle.tpf_cli.specs.Runs.{Around, WritesNumbers, CutsLine, CountsFile, DoesOf, unwritten, wire_inside, options_of, view_of}
 use Rattle.tpf_cli.specs.Promises.{OfGroupFiles, OfGroupGenerated, OfGroupQuery, IsDone, SucceedsGroupsOf}

@@ -5,7 +5,7 @@ use Rattle.tpf_base.specs.Wrote.{SinkState}
 use Rattle.tpf_base.specs.declared.fault.Fault.{Fault}
 use Rattle.triple_table.specs.declared.choice.Choice.{Choice}
 use Rattle.tpf_client.specs.declared.options.Report.{Report}
-use Rattle.query_command.specs.declared.fault.AnswerFault.{AnswerFault}
+use Rattle.command_endings.specs.declared.fault.AnswerFault.{AnswerFault}
 use Rattle.query_command.specs.Groups.{FileAsked, ServerAsked}
 use Rattle.serve_command.specs.declared.fault.ServiceFault.{ServiceFault}
 use Rattle.serve_command.specs.Services.{ServesFile}
@@ -13,8 +13,8 @@ use Rattle.query_command.specs.Servers.{ServersAsked}
 use Rattle.command_words.specs.declared.command.ClientWords.{ClientWords}
 use Rattle.command_words.specs.declared.limits.TheConstants.{MOST_BUDGET}
 use Rattle.command_words.specs.Commands.{Command, Federated, local, query, federate, serve, make}
-use Rattle.tpf_cli.specs.Endings as ends
-use Rattle.tpf_cli.specs.Endings.{EndOfRun, usage, no_words, answered, made, counted, status_of, Says}
+use Rattle.command_endings.specs.Endings as ends
+use Rattle.command_endings.specs.Endings.{EndOfRun, usage, no_words, answered, made, counted, status_of, Says}
 use Rattle.tpf_cli.specs.Ranges.{IsInRange}
 use Rattle.tpf_cli.specs.Runs.{Around, Makes, CountsFile, Does, DoesOf, wire_inside, options_of, view_of, config_by}
 

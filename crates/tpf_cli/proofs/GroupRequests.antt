@@ -10,18 +10,18 @@ use Rattle.data_files.specs.Queries.{reads_groups}
 use Rattle.data_files.proofs.Outcomes.{one_outcome, one_query}
 use Rattle.file_server.specs.Servers.{serving}
 use Rattle.query_command.specs.Blocks.{grammar_of}
-use Rattle.query_command.specs.declared.fault.AnswerFault.{AnswerFault}
+use Rattle.command_endings.specs.declared.fault.AnswerFault.{AnswerFault}
 use Rattle.query_command.specs.Groups.{FileAsked, Plain, Groups, group_plan_of}
 use Rattle.query_command.specs.Loops.{LocalView, local_config}
 use Rattle.query_command.specs.Plans.{CountsRequests}
 use Rattle.command_words.specs.Commands.{Command}
-use Rattle.tpf_cli.specs.Endings.{EndOfRun, answered, Says}
+use Rattle.command_endings.specs.Endings.{EndOfRun, answered, Says}
 use Rattle.tpf_cli.specs.Ranges.{IsInRange}
 use Rattle.tpf_cli.specs.Runs.{Around, DoesOf, wire_inside}
 use Rattle.tpf_cli.specs.Promises.{TellsOfGroupPlan, TellsGroupRequestsOf}
 use Rattle.tpf_cli.proofs.Answered.{answered_requests}
 use Rattle.tpf_cli.proofs.Grouped.{no_groups}
-use Rattle.tpf_cli.proofs.Statuses.{known_fault}
+use Rattle.command_endings.proofs.Statuses.{known_fault}
 use Rattle.query_command.proofs.Locals.{same_data}
 use Rattle.tpf_cli.proofs.Refused.{carried, same_group}
 

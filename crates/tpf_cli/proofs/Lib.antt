@@ -1,8 +1,6 @@
 pub mod Typed
-pub mod Statuses
 pub mod Tables
 pub mod Ranges
-pub mod Said
 pub mod Grouped
 pub mod Asked
 pub mod Commanded
@@ -13,4 +11,3 @@ pub mod Completed
 pub mod Answered
 pub mod GroupRequests
 pub mod Promised
-pub mod LineLemmas

@@ -19,12 +19,12 @@ use Rattle.data_files.specs.Data.{IfTold, Serves, served}
 use Rattle.data_files.specs.Kept.{KeepsShelf, KeepsSink}
 use Rattle.data_files.specs.KeptLaws.{shelf_same, reads_keep, sink_same}
 use Rattle.query_command.specs.Blocks.{grammar_of}
-use Rattle.query_command.specs.declared.fault.AnswerFault.{AnswerFault}
-use Rattle.query_command.specs.declared.fault.AnswerFault.TheVariants as answers
+use Rattle.command_endings.specs.declared.fault.AnswerFault.{AnswerFault}
+use Rattle.command_endings.specs.declared.fault.AnswerFault.TheVariants as answers
 use Rattle.query_command.specs.Files.{FailsByFile}
 use Rattle.query_command.specs.Answers.{FitsOver, OfQuery, IsWanting}
 use Rattle.query_command.specs.Groups.{FileAsked, ServerAsked, GeneratedAsked, Plain, Groups}
-use Rattle.query_command.specs.declared.generated_query.Counts.{Counts}
+use Rattle.command_endings.specs.declared.fault.Counts.{Counts}
 use Rattle.query_command.specs.Generated.{usual_options, usual_config}
 use Rattle.query_command.specs.Loops.{LocalView, local_config}
 use Rattle.query_command.specs.Plans.{plan_of, offer_of, EndsCounted, MayFail, OfFiles, OfGenerated, PlanIsWithin}
@@ -35,13 +35,13 @@ use Rattle.serve_command.specs.Services.{ServesFile}
 use Rattle.command_words.specs.declared.command.ClientWords.{ClientWords}
 use Rattle.query_command.specs.Servers.{FitsServers, ServersAsked}
 use Rattle.command_words.specs.Commands.{Command, Federated, local, query, federate, serve, make}
-use Rattle.tpf_cli.specs.Endings.{EndOfRun, answered, data_status, fault_status, answer_status, service_status, made_status, counted_status, Says}
+use Rattle.command_endings.specs.Endings.{EndOfRun, answered, data_status, fault_status, answer_status, service_status, made_status, counted_status, Says}
 use Rattle.tpf_cli.specs.Ranges.{IsInRange, IsTyped}
 use Rattle.tpf_cli.specs.Runs.{Around, Writes, WritesNumbers, CountsFile, DoesOf, wire_inside, options_of, view_of, config_by}
 use Rattle.tpf_cli.proofs.Among.{run_among}
 use Rattle.tpf_cli.proofs.Ended.{budget_small, OfEach, each_ending, of_run}
 use Rattle.tpf_cli.proofs.Answered.{answered_requests}
-use Rattle.tpf_cli.proofs.Statuses.{known_fault}
+use Rattle.command_endings.proofs.Statuses.{known_fault}
 use Rattle.tpf_cli.proofs.Tables.{done_table, memory_table, data_table, query_table, client_table, cut_table}
 use Rattle.tpf_cli.proofs.Grouped.{no_plain, file_reads, file_output, server_reads, server_output, generated_reads}
 use Rattle.tpf_cli.proofs.Refused.{run_group_table, run_refusal}

@@ -29,21 +29,21 @@ use Rattle.data_files.specs.Causes.{DataCause, QueryCause, QueryDecides}
 use Rattle.data_files.proofs.Outcomes.{one_outcome, one_query}
 use Rattle.file_server.specs.Servers.{serving}
 use Rattle.query_command.specs.Blocks.{grammar_of}
-use Rattle.query_command.specs.declared.fault.AnswerFault.{AnswerFault}
-use Rattle.query_command.specs.declared.fault.AnswerFault.TheVariants as answers
-use Rattle.query_command.specs.declared.generated_query.Counts.{Counts}
+use Rattle.command_endings.specs.declared.fault.AnswerFault.{AnswerFault}
+use Rattle.command_endings.specs.declared.fault.AnswerFault.TheVariants as answers
+use Rattle.command_endings.specs.declared.fault.Counts.{Counts}
 use Rattle.query_command.specs.Generated.{usual_options, usual_config}
 use Rattle.query_command.specs.Loops.{LocalView, local_config}
 use Rattle.query_command.specs.Groups.{group_plan_of, group_offer_of, MayEndGroup, FileAsked, ServerAsked, GeneratedAsked, Plain, Groups}
 use Rattle.query_command.specs.Servers.{ServersAsked}
 use Rattle.command_words.specs.Commands.{Command, Federated, local, query, federate, serve, make}
-use Rattle.tpf_cli.specs.Endings as ends
-use Rattle.tpf_cli.specs.Endings.{EndOfRun, data_status, query_status, client_status, fault_status, answer_status, counted_status, Says}
+use Rattle.command_endings.specs.Endings as ends
+use Rattle.command_endings.specs.Endings.{EndOfRun, data_status, query_status, client_status, fault_status, answer_status, counted_status, Says}
 use Rattle.tpf_cli.specs.Ranges.{IsInRange}
 use Rattle.tpf_cli.specs.Runs.{Around, WritesNumbers, CountsFile, IsRead, GivesEnd, DoesOf, unwritten, wire_inside, options_of, view_of}
 use Rattle.tpf_cli.specs.Promises.{KeepsGroupTable, KeepsGroupTableOf, OfGroupFiles, OfGroupGenerated, RefusesBy, RefusesQuery, RefusesOf}
 use Rattle.query_command.proofs.Locals.{same_data}
-use Rattle.tpf_cli.proofs.Statuses.{not_four}
+use Rattle.command_endings.proofs.Statuses.{not_four}
 use Rattle.tpf_cli.proofs.Tables.{done_table, memory_table, data_table, query_table, client_table, cut_table}
 use Rattle.tpf_cli.proofs.Grouped.{no_groups, file_gives, server_gives}
 use Rattle.tpf_cli.proofs.Ended.{budget_small, of_run}

@@ -12,7 +12,7 @@ use Rattle.data_files.specs.declared.fault.DataFault.TheVariants as data_faults
 use Rattle.data_files.specs.declared.fault.QueryFileFault.{QueryFileFault}
 use Rattle.data_files.specs.declared.fault.QueryFileFault.TheVariants as query_faults
 use Rattle.query_command.specs.Plans.{MayEndBy}
-use Rattle.tpf_cli.specs.Endings.{data_status, query_status, client_status, fault_status}
+use Rattle.command_endings.specs.Endings.{data_status, query_status, client_status, fault_status}
 use Rattle.tpf_cli.specs.Runs.{unwritten}
 use Rattle.tpf_cli.specs.Promises.{KeepsPlan}
 

@@ -31,8 +31,8 @@ use Rattle.query_command.specs.Groups.{group_plan_of, group_offer_of, GroupIsWit
 use Rattle.query_command.specs.Plans.{plan_of, offer_of, CountsRequests, FailsOften, PassesBudget, OfFiles, OfGenerated, PlanIsWithin}
 use Rattle.query_command.specs.Servers.{FitsServers}
 use Rattle.command_words.specs.Commands.{Command, local, query, federate, serve, make}
-use Rattle.tpf_cli.specs.Endings.{EndOfRun, Says}
-use Rattle.tpf_cli.specs.Lines.{counts_text}
+use Rattle.command_endings.specs.Endings.{EndOfRun, Says}
+use Rattle.command_endings.specs.Lines.{counts_text}
 use Rattle.tpf_cli.specs.Runs.{Around, DoesOf, options_of, view_of}
 
 -- ---- the statuses that may come, over any shelf, wire and output, told or not

@@ -21,12 +21,12 @@ use Rattle.data_files.specs.declared.query.Grammar.TheVariants as grammars
 use Rattle.data_files.specs.Causes.{QueryDecides, GivesQuery}
 use Rattle.data_files.specs.Queries.{QueryOutcome, reads_groups}
 use Rattle.data_files.specs.Kept.{KeepsSink}
-use Rattle.query_command.specs.declared.fault.AnswerFault.{AnswerFault}
-use Rattle.query_command.specs.declared.fault.AnswerFault.TheVariants as answer_faults
+use Rattle.command_endings.specs.declared.fault.AnswerFault.{AnswerFault}
+use Rattle.command_endings.specs.declared.fault.AnswerFault.TheVariants as answer_faults
 use Rattle.query_command.specs.Answers.{IsReading}
 use Rattle.query_command.specs.Loops.{LocalView}
 use Rattle.query_command.specs.Groups.{FileAsked, ServerAsked, GeneratedAsked}
-use Rattle.query_command.specs.declared.generated_query.Counts.{Counts}
+use Rattle.command_endings.specs.declared.fault.Counts.{Counts}
 use Rattle.serve_command.specs.Services.{ServesFile}
 use Rattle.command_words.specs.declared.command.ClientWords.{ClientWords}
 use Rattle.command_words.specs.declared.command.LocalWords.{LocalWords}
@@ -35,8 +35,8 @@ use Rattle.query_command.specs.Servers.{ServersAsked}
 use Rattle.command_words.specs.Commands.{Command, local, query, federate, serve, make}
 use Rattle.tpf_cli.specs.declared.top.Inside.{Inside}
 use Rattle.tpf_cli.specs.declared.top.Inside.TheVariants.{Unused, Loop}
-use Rattle.tpf_cli.specs.Endings.{EndOfRun, usage, no_words, answered, served, made, counted}
-use Rattle.tpf_cli.specs.Lines.{sizes_text}
+use Rattle.command_endings.specs.Endings.{EndOfRun, usage, no_words, answered, served, made, counted}
+use Rattle.command_endings.specs.Lines.{sizes_text}
 
 -- What stands around a run, before it and after it: the shelf, the wire that is handed in with what it allows, the output, and the wire that was made inside.
 pub record Around : Type 1 where

@@ -12,14 +12,12 @@ ghost use Rattle.serve_command.specs.Services.{ServesFile};
 ghost use Rattle.tpf_cli.specs.Ranges.{IsClient, IsTyped};
 ghost use Rattle.tpf_cli.specs.Runs.{WritesNumbers, CountsFile, asked_of, config_in, options_of, unwritten, wire_inside};
 
-use crate::lines::write_sizes;
 use crate::top::Inside;
+use command_endings::{AnswerFault, Counts, write_sizes};
 use command_words::{ClientWords, FederateWords, LocalWords, QueryWords, ServeWords};
 use fragment_server::FragmentConnection;
 use loop_wire::LoopWire;
-use query_command::{
-    AnswerFault, Counts, LocalQuery, local, query, query_generated, query_servers,
-};
+use query_command::{LocalQuery, local, query, query_generated, query_servers};
 use serve_command::{Service, ServiceFault, serve};
 use std::alloc::Global;
 use std::mem;

@@ -22,12 +22,7 @@
 #![tactic(auto)]
 
 mod commands;
-mod ending;
-mod lines;
-mod names;
 mod process;
-mod say;
-mod status;
 mod top;
 
 pub use process::{run_process, words_of};

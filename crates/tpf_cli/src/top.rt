@@ -4,14 +4,13 @@ ghost use Rattle.generated_data.specs.declared.limits.TheConstants.{MOST_PERSONS
 ghost use Rattle.command_words.specs.Commands as commands;
 ghost use Rattle.command_words.specs.Commands.{command_of};
 ghost use Rattle.command_words.specs.CommandViews.{command_view};
-ghost use Rattle.tpf_cli.specs.EndingViews.{ending_view};
+ghost use Rattle.command_endings.specs.EndingViews.{ending_view};
 ghost use Rattle.tpf_cli.specs.Ranges.{IsInRange};
 ghost use Rattle.tpf_cli.specs.Runs.{Does, DoesOf, Makes, IsWithoutShelf, IsWithoutOutput, IsWithoutWire, around};
 ghost use Rattle.tpf_cli.specs.Promises.{Keeps};
 
 use crate::commands::{ask_file, ask_generated, ask_server, ask_servers, serve_file};
-use crate::ending::Ending;
-use crate::say::say;
+use command_endings::{Ending, say};
 use command_words::{Command, command_of};
 use fragment_server::FragmentConnection;
 use generated_data::write_generated;

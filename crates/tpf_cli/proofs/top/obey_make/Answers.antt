@@ -1,5 +1,5 @@
 use Rattle.std.proofs.Common.{refl}
-use Rattle.tpf_cli.specs.Endings.{made}
+use Rattle.command_endings.specs.Endings.{made}
 use Rattle.tpf_cli.proofs.Asked.{writes_data, makes_none}
 use Rattle.tpf_cli.proofs.top.obey_make.Goals as goal
 

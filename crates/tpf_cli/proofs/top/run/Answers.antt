@@ -1,7 +1,7 @@
 -- What the run did and said keeps all that it promises.
 use Rattle.std.proofs.Common.{ℕ, map, string_bytes, sym, subst}
-use Rattle.tpf_cli.specs.Endings.{Says}
-use Rattle.tpf_cli.specs.EndingViews.{ending_view}
+use Rattle.command_endings.specs.Endings.{Says}
+use Rattle.command_endings.specs.EndingViews.{ending_view}
 use Rattle.tpf_cli.proofs.Promised.{run_keeps}
 use Rattle.tpf_cli.proofs.Ranges.{ranges}
 use Rattle.tpf_cli.proofs.top.run.Goals as goal

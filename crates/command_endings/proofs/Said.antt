@@ -1,0 +1,46 @@
+-- What is said on the standard error.
+use Rattle.std.proofs.Common.{ℕ, ◌≡◌, inl, inr, List, [], ◌++◌, Result, codes, decimal, refl, sym, ap, subst}
+use Rattle.std.proofs.KnownBytes.{Appends-nil}
+use Rattle.tpf_base.specs.Wrote.{SinkState}
+use Rattle.tpf_base.specs.declared.fault.Fault.{Fault}
+use Rattle.data_files.specs.declared.fault.DataFault.{DataFault}
+use Rattle.command_endings.specs.declared.fault.AnswerFault.{AnswerFault}
+use Rattle.command_endings.specs.Endings.{data_status, data_line, made_status, made_line, counted_status, counted_line}
+use Rattle.command_endings.specs.Lines.{SaysLine}
+
+-- the same is said where the line is equal
+pub along : (result status : ℕ) (old new : SinkState) (line other : List ℕ) → line ≡ other → SaysLine result status line old new → SaysLine result status other old new
+along result status old new line other e h = subst (λ (l : List ℕ). SaysLine result status l old new) e h
+
+-- nothing was said where memory ran out before
+pub unsaid : (status : ℕ) (old : SinkState) (line : List ℕ) → SaysLine 8 status line old old
+unsaid status old line = inr (refl, record { front = []; rest = line; whole = refl; bytes = Appends-nil old.taken })
+
+-- an empty line is said by nothing
+pub silent : (status : ℕ) (old : SinkState) → SaysLine status status [] old old
+silent status old = inl (refl, inl (Appends-nil old.taken))
+
+-- what is said of a known fault of data is said of the fault
+pub data_said : (result : ℕ) (old new : SinkState) (name : List ℕ) (fault known : DataFault) → fault ≡ known → SaysLine result (data_status known) (data_line name known) old new
+    → SaysLine result (data_status fault) (data_line name fault) old new
+data_said result old new name fault known is h = subst (λ (f : DataFault). SaysLine result (data_status f) (data_line name f) old new) (sym is) h
+
+-- the same of generated data
+pub made_said : (result : ℕ) (old new : SinkState) (made known : Result (Unit {0}) Fault) → made ≡ known → SaysLine result (made_status known) (made_line known) old new
+    → SaysLine result (made_status made) (made_line made) old new
+made_said result old new made known is h = subst (λ (m : Result (Unit {0}) Fault). SaysLine result (made_status m) (made_line m) old new) (sym is) h
+
+-- the same of a query of generated data
+pub counted_said : (result : ℕ) (old new : SinkState) (name : List ℕ) (counted known : Result (Unit {0}) AnswerFault) → counted ≡ known → SaysLine result (counted_status known) (counted_line name known) old new
+    → SaysLine result (counted_status counted) (counted_line name counted) old new
+counted_said result old new name counted known is h = subst (λ (m : Result (Unit {0}) AnswerFault). SaysLine result (counted_status m) (counted_line name m) old new) (sym is) h
+
+-- the lines of faults of data by the name of the fault, by the label, and by the name of the file
+pub fault_line_of : (n : ℕ) (why other : List ℕ) → why ≡ other → (codes "data: line " ++ decimal n ++ codes ": " ++ why ++ codes "\n") ≡ (codes "data: line " ++ decimal n ++ codes ": " ++ other ++ codes "\n")
+fault_line_of n why other is = ap (λ (w : List ℕ). codes "data: line " ++ decimal n ++ codes ": " ++ w ++ codes "\n") is
+
+pub label_line_of : (label other : List ℕ) → label ≡ other → (codes "data: genid " ++ label ++ codes "\n") ≡ (codes "data: genid " ++ other ++ codes "\n")
+label_line_of label other is = ap (λ (l : List ℕ). codes "data: genid " ++ l ++ codes "\n") is
+
+pub file_line_of : (name other : List ℕ) → name ≡ other → (codes "file: " ++ name ++ codes "\n") ≡ (codes "file: " ++ other ++ codes "\n")
+file_line_of name other is = ap (λ (n : List ℕ). codes "file: " ++ n ++ codes "\n") is

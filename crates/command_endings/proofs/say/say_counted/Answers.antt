@@ -1,0 +1,9 @@
+use Rattle.data_files.specs.KeptLaws.{sink_none}
+use Rattle.command_endings.proofs.Said.{counted_said, silent}
+use Rattle.command_endings.proofs.say.say_counted.Goals as goal
+
+pub returns-in-Ok-clause-says : goal.returns-in-Ok-clause-says
+returns-in-Ok-clause-says g c = counted_said _ (g.E.Sink.state c.args.err.now) (g.E.Sink.state c.args.err.now) c.args.query.now c.args.counted.now _ c.in-Ok.is (silent 0 (g.E.Sink.state c.args.err.now))
+
+pub returns-in-Ok-clause-keeps : goal.returns-in-Ok-clause-keeps
+returns-in-Ok-clause-keeps g c = sink_none _
