@@ -21,7 +21,8 @@ struct Case<'a> {
     calls: &'a [Call],
 }
 
-static CASES: [Case; 29] = [
+/// What comes on a link, as it is received.
+static COMING: [Case; 8] = [
     Case {
         shows: "a piece comes after a stall",
         links: &[ABC],
@@ -104,6 +105,10 @@ static CASES: [Case; 29] = [
             Call::Sent(1, "z"),
         ],
     },
+];
+
+/// How many bytes a send takes.
+static SENT: [Case; 4] = [
     Case {
         shows: "a send takes no byte where the script says so",
         links: &[Link { most: 0, ..ENDING }],
@@ -144,46 +149,52 @@ static CASES: [Case; 29] = [
             Call::Sent(0, "abcdef"),
         ],
     },
-    Case {
-        shows: "a wait answers what can move",
-        links: &[
-            STAYING,
-            Link {
-                pieces: &["a"],
-                ..ENDING
-            },
-            STAYING,
-        ],
-        fails: Fails::Never,
-        calls: &[
-            // No link, and the door is closed.
-            Call::Wait(Err(Fault::Failed)),
-            Call::Listen(Ok(())),
-            Call::Wait(Ok(Ready::Door)),
-            Call::Accept(Ok(Some(0))),
-            // A link was given.
-            Call::Idle(0),
-            Call::Dial(Ok(1)),
-            Call::Wait(Ok(Ready::Link(1))),
-            Call::Look,
-            // A look is no wait.
-            Call::Idle(1),
-            Call::Wait(Ok(Ready::Link(1))),
-            Call::Idle(2),
-            Call::Receive(1, 8, "- a"),
-            // A byte moved.
-            Call::Idle(0),
-            // The end is to come.
-            Call::Wait(Ok(Ready::Link(1))),
-            Call::Receive(1, 8, "."),
-            Call::Wait(Ok(Ready::Door)),
-            Call::Dial(Ok(2)),
-            // No script is left.
-            Call::Wait(Err(Fault::Failed)),
-            Call::Dial(Err(Fault::Failed)),
-            Call::Accept(Ok(None)),
-        ],
-    },
+];
+
+/// What a wait answers.
+static WAITED: [Case; 1] = [Case {
+    shows: "a wait answers what can move",
+    links: &[
+        STAYING,
+        Link {
+            pieces: &["a"],
+            ..ENDING
+        },
+        STAYING,
+    ],
+    fails: Fails::Never,
+    calls: &[
+        // No link, and the door is closed.
+        Call::Wait(Err(Fault::Failed)),
+        Call::Listen(Ok(())),
+        Call::Wait(Ok(Ready::Door)),
+        Call::Accept(Ok(Some(0))),
+        // A link was given.
+        Call::Idle(0),
+        Call::Dial(Ok(1)),
+        Call::Wait(Ok(Ready::Link(1))),
+        Call::Look,
+        // A look is no wait.
+        Call::Idle(1),
+        Call::Wait(Ok(Ready::Link(1))),
+        Call::Idle(2),
+        Call::Receive(1, 8, "- a"),
+        // A byte moved.
+        Call::Idle(0),
+        // The end is to come.
+        Call::Wait(Ok(Ready::Link(1))),
+        Call::Receive(1, 8, "."),
+        Call::Wait(Ok(Ready::Door)),
+        Call::Dial(Ok(2)),
+        // No script is left.
+        Call::Wait(Err(Fault::Failed)),
+        Call::Dial(Err(Fault::Failed)),
+        Call::Accept(Ok(None)),
+    ],
+}];
+
+/// Which calls fail, by how many were made or how many bytes moved before.
+static FAILING: [Case; 6] = [
     Case {
         shows: "no call fails",
         links: &[ABC, ABC],
@@ -253,6 +264,10 @@ static CASES: [Case; 29] = [
             Call::Accept(Ok(Some(0))),
         ],
     },
+];
+
+/// The one call that fails, among six.
+static ONE_FAILING: [Case; 6] = [
     Case {
         shows: "the first call fails",
         links: &[ABC, ABC],
@@ -328,6 +343,10 @@ static CASES: [Case; 29] = [
             Call::Accept(Err(Fault::Failed)),
         ],
     },
+];
+
+/// Which dials fail.
+static DIALS_FAILING: [Case; 4] = [
     Case {
         shows: "a dial counts among the calls",
         links: &[Link { times: 6, ..ABC }],
@@ -381,12 +400,42 @@ fn run_case<R: Abort>(rt: &R, alloc: Global, case: &Case) -> Result<(), Fail> {
     Ok(())
 }
 
-#[test]
-fn calls_over_scripts_answer_what_these_say(rt: HostRuntime) -> Result<(), Fail> {
-    for case in &CASES {
-        run_case(&rt, rt.alloc(), case)?;
+/// The same of several cases.
+fn run_cases<R: Abort>(rt: &R, alloc: Global, cases: &[Case]) -> Result<(), Fail> {
+    for case in cases {
+        run_case(rt, alloc, case)?;
     }
     Ok(())
+}
+
+#[test]
+fn what_comes_is_what_the_script_says(rt: HostRuntime) -> Result<(), Fail> {
+    run_cases(&rt, rt.alloc(), COMING.as_slice())
+}
+
+#[test]
+fn a_send_takes_what_the_script_says(rt: HostRuntime) -> Result<(), Fail> {
+    run_cases(&rt, rt.alloc(), SENT.as_slice())
+}
+
+#[test]
+fn a_wait_answers_what_can_move(rt: HostRuntime) -> Result<(), Fail> {
+    run_cases(&rt, rt.alloc(), WAITED.as_slice())
+}
+
+#[test]
+fn calls_fail_as_the_plan_says(rt: HostRuntime) -> Result<(), Fail> {
+    run_cases(&rt, rt.alloc(), FAILING.as_slice())
+}
+
+#[test]
+fn one_call_of_six_fails(rt: HostRuntime) -> Result<(), Fail> {
+    run_cases(&rt, rt.alloc(), ONE_FAILING.as_slice())
+}
+
+#[test]
+fn dials_fail_as_the_plan_says(rt: HostRuntime) -> Result<(), Fail> {
+    run_cases(&rt, rt.alloc(), DIALS_FAILING.as_slice())
 }
 
 /// The answers of a dial and two receives.

@@ -63,7 +63,8 @@ struct Case<'a> {
     sent: &'a [Sent<'a>],
 }
 
-static CASES: [Case; 10] = [
+/// Links that get back what comes on them.
+static RETURNED: [Case; 3] = [
     Case {
         shows: "what a send did not take is sent by the next one",
         links: &[Link { most: 2, ..ABC }],
@@ -111,6 +112,10 @@ static CASES: [Case; 10] = [
         given: 2,
         sent: &[Sent(0, 1, ""), Sent(1, 2, "1234")],
     },
+];
+
+/// Calls that fail, and what ends by it.
+static FAILING: [Case; 3] = [
     Case {
         shows: "a door that fails ends the service",
         links: &[ABC],
@@ -137,20 +142,6 @@ static CASES: [Case; 10] = [
         sent: &[],
     },
     Case {
-        shows: "all that wait are accepted behind the first turn",
-        // The first link ends in the third turn.
-        links: &[Link {
-            times: 20,
-            pieces: &["a"],
-            ..ENDING
-        }],
-        fails: Fails::Never,
-        stop_after: 1,
-        ended: ONE_ENDED,
-        given: 20,
-        sent: &[],
-    },
-    Case {
         shows: "a link that fails ends alone",
         links: &[
             ABC,
@@ -171,6 +162,24 @@ static CASES: [Case; 10] = [
         ended: THREE_ENDED,
         given: 3,
         sent: &[Sent(0, 1, ""), Sent(1, 2, "1234"), Sent(2, 3, "xy")],
+    },
+];
+
+/// Many links at once.
+static MANY: [Case; 2] = [
+    Case {
+        shows: "all that wait are accepted behind the first turn",
+        // The first link ends in the third turn.
+        links: &[Link {
+            times: 20,
+            pieces: &["a"],
+            ..ENDING
+        }],
+        fails: Fails::Never,
+        stop_after: 1,
+        ended: ONE_ENDED,
+        given: 20,
+        sent: &[],
     },
     Case {
         shows: "sixteen links of a round are stepped in a turn",
@@ -193,6 +202,10 @@ static CASES: [Case; 10] = [
         // 15, 16 to 31, 32 to 39, and 0 to 15, where the first link ends.
         sent: &[Sent(0, 16, "ab"), Sent(16, 32, "a"), Sent(32, 40, "ab")],
     },
+];
+
+/// More links than may be live.
+static FULL: [Case; 2] = [
     Case {
         shows: "a link that comes late is answered before a round has ended",
         links: &[
@@ -275,10 +288,30 @@ fn run_case<R: Wait + Abort>(rt: &R, alloc: Global, case: &Case) -> Result<(), F
     Ok(())
 }
 
-#[test]
-fn echoes_come_back_on_their_links_in_turns(rt: HostRuntime) -> Result<(), Fail> {
-    for case in &CASES {
-        run_case(&rt, rt.alloc(), case)?;
+/// The same of several cases.
+fn run_cases<R: Wait + Abort>(rt: &R, alloc: Global, cases: &[Case]) -> Result<(), Fail> {
+    for case in cases {
+        run_case(rt, alloc, case)?;
     }
     Ok(())
+}
+
+#[test]
+fn echoes_come_back_on_their_links(rt: HostRuntime) -> Result<(), Fail> {
+    run_cases(&rt, rt.alloc(), RETURNED.as_slice())
+}
+
+#[test]
+fn a_door_or_a_link_fails(rt: HostRuntime) -> Result<(), Fail> {
+    run_cases(&rt, rt.alloc(), FAILING.as_slice())
+}
+
+#[test]
+fn many_links_are_served_in_turns(rt: HostRuntime) -> Result<(), Fail> {
+    run_cases(&rt, rt.alloc(), MANY.as_slice())
+}
+
+#[test]
+fn a_link_waits_while_256_are_live(rt: HostRuntime) -> Result<(), Fail> {
+    run_cases(&rt, rt.alloc(), FULL.as_slice())
 }
