@@ -1,5 +1,5 @@
 //! Callers of laws that proofs cite and no other code calls: what a law says is known where it was
-//! called.
+//! called. Worked examples of definitions are computed in its proofs.
 #![tactic(auto)]
 
 ghost use Rattle.hydra_controls.specs.Laws.{MetadataIsRdf};
