@@ -1,5 +1,4 @@
 pub mod Firsts
-pub mod DataSets
 pub mod Fitting
 pub mod Lengths
 pub mod Orders

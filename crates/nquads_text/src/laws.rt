@@ -1,11 +1,5 @@
-// Laws of readings and of what is written.
-ghost use Rattle.nquads_text.specs.Laws.{IsReadOrFaulty, IsNotBoth, ReadIsReadable, CanonReadsBack};
-
-/// A text has a reading or a first fault, and not both.
-pub fn one_of_two()
-    ensures one { IsReadOrFaulty }
-    ensures not_both { IsNotBoth }
-{}
+// Laws of what is read and of what is written.
+ghost use Rattle.nquads_text.specs.Laws.{ReadIsReadable, CanonReadsBack};
 
 /// The quads of a text that is read have RDF's classes, terms that keep the rules of their parts, and texts within the limits.
 pub fn what_is_read_is_readable()

@@ -1,10 +1,6 @@
-pub mod AsRead
-pub mod AsWritten
 pub mod Blocks
 pub mod Closed
 pub mod Fits
-pub mod GoodWords
-pub mod Groups
 pub mod Joins
 pub mod Limits
 pub mod Nexts
@@ -19,4 +15,3 @@ pub mod Skips
 pub mod SomeQuery
 pub mod Splits
 pub mod Texts
-pub mod TokenTexts

@@ -1,9 +1,6 @@
 // What the definitions of queries say of every text.
-ghost use Rattle.pattern_parser.specs.Productions.{AsProduced};
 ghost use Rattle.pattern_parser.specs.Queries.{OneQuery};
-ghost use Rattle.pattern_parser.specs.Read.{ReadAsProduced};
 ghost use Rattle.pattern_parser.specs.Short.{TermsAreShort};
-ghost use Rattle.pattern_parser.specs.Written.{TermsAsWritten};
 
 use query_grammar::laws::one_fault;
 use query_tokens::laws::one_reading;
@@ -16,24 +13,6 @@ pub fn one_query()
     one_reading();
     one_fault();
 }
-
-/// The patterns that the productions of a block give, each its own (TriplesBlock, TriplesSameSubject,
-/// PropertyListNotEmpty, ObjectList; SPARQL 1.1, section 19.8), are those that are read.
-pub fn as_produced()
-    ensures { AsProduced }
-{}
-
-/// Between the braces of each text that is read stands a block of SPARQL's productions, or nothing,
-/// and the query's patterns are those that the productions give (SPARQL 1.1, section 19.8).
-pub fn read_as_produced()
-    ensures { ReadAsProduced }
-{}
-
-/// In each query every token that is a term stands for it as it is written: no IRI, datatype or
-/// language tag is dropped (SPARQL 1.1, section 4.1).
-pub fn terms_as_written()
-    ensures { TermsAsWritten }
-{}
 
 /// In each query the texts of a fixed term, its IRI or its form with the datatype or language tag,
 /// have at most `MOST_UNWRITTEN` bytes (60) more together than a query's text may have (262204). They

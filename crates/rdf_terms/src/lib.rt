@@ -33,11 +33,7 @@ pub use canon::{after_mark, is_marked, marks};
 pub use datatype::{Datatype, is_datatype, is_lang_string, is_xsd_string};
 pub use iri::{IriText, has_scheme, is_iri, is_iri_byte};
 pub use label::{Label, is_label, is_label_char, is_label_start};
-pub use laws::{
-    askable_slots_are_kept, canonical_len_is, fragment_is_one, lower_is_kept, no_other_fragment,
-    no_rows_select_all, order_is_total, order_tells_apart, selection_is_one, triple_order_is_total,
-    triple_order_tells_apart,
-};
+pub use laws::{askable_slots_are_kept, canonical_len_is, lower_is_kept, triple_order_tells_apart};
 pub use limits::{
     LONGEST_LABEL, LONGEST_READ, LONGEST_TERM, MOST_ROWS, MOST_TRIPLES, MOST_UNWRITTEN,
 };

@@ -28,7 +28,6 @@ mod bytes;
 mod drain;
 mod failing;
 mod fault;
-pub mod laws;
 mod limits;
 mod mem_shelf;
 mod mem_sink;
@@ -45,7 +44,6 @@ pub use bytes::Bytes;
 pub use drain::Drain;
 pub use failing::{Failing, Failures};
 pub use fault::Fault;
-pub use laws::numbers_read_back;
 pub use limits::{
     ENOUGH_PENDING, HEAD_LIMIT, HEADS_LIMIT, HIGHEST_NUMBER, HIGHEST_PORT, LINE_LIMIT,
     MOST_CHUNK_DIGITS, MOST_DIGITS, MOST_FIELDS, MOST_LINKS, PADDING_LIMIT,

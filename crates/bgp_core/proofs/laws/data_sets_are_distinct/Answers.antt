@@ -1,6 +1,0 @@
-use Rattle.std.proofs.Common.{[]}
-use Rattle.bgp_core.proofs.DataSets.{distinct_after-sorted, none_stands}
-use Rattle.bgp_core.proofs.laws.data_sets_are_distinct.Goals as goal
-
-pub returns : goal.returns
-returns c = λ triples set. distinct_after-sorted [] triples (none_stands triples) set.ascending

@@ -1,5 +1,0 @@
-use Rattle.bgp_core.proofs.Swaps.{extension-Commute}
-use Rattle.bgp_core.proofs.laws.extensions_commute.Goals as goal
-
-pub returns : goal.returns
-returns c = extension-Commute

@@ -1,8 +1,0 @@
-use Rattle.bgp_core.proofs.Patterns.{solutions-patterns, solutions-first}
-use Rattle.bgp_core.proofs.laws.pattern_order_is_free.Goals as goal
-
-pub returns-clause-patterns : goal.returns-clause-patterns
-returns-clause-patterns c = solutions-patterns
-
-pub returns-clause-first : goal.returns-clause-first
-returns-clause-first c = solutions-first

@@ -1,5 +1,0 @@
-use Rattle.bgp_core.proofs.Orders.{solutions-IsPermutation}
-use Rattle.bgp_core.proofs.laws.triple_order_is_free.Goals as goal
-
-pub returns : goal.returns
-returns c = solutions-IsPermutation

@@ -1,5 +1,0 @@
-use Rattle.regular_expressions.proofs.Left.{alive-some}
-use Rattle.regular_expressions.proofs.alive_begins.Goals as goal
-
-pub returns : goal.returns
-returns c = λ r e. alive-some r e
