@@ -10,4 +10,3 @@ mod Shapes
 mod Walks
 mod Whole
 mod WordKinds
-mod WorkedWords

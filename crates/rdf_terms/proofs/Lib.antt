@@ -1,7 +1,6 @@
 pub mod Asked
 pub mod Books
 pub mod Canonical
-pub mod Checks
 pub mod Ended
 pub mod Equality
 pub mod FragmentLaws
@@ -11,4 +10,3 @@ pub mod Selected
 pub mod SelectionLaws
 pub mod Tags
 pub mod Types
-mod WorkedSelections

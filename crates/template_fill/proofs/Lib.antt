@@ -9,9 +9,6 @@ pub mod Quotes
 pub mod PageTexts
 pub mod Written
 pub mod Questions
-pub mod WorkedAnswers
-pub mod WorkedResponses
-pub mod WorkedRows
 pub mod Authorities
 pub mod Answered
 pub mod Histories
