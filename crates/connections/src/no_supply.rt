@@ -7,7 +7,7 @@ use crate::{Serves, Supply};
 use tpf_base::Fault;
 
 /// A supply that fails at each call, and counts the calls up to 2^64 - 1.
-#[derive(Debug, Drop)]
+#[derive(Drop)]
 pub struct NoSupply {
     faults: u64,
 }

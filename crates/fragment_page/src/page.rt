@@ -7,7 +7,7 @@ use template_fill::{Form, WebAddress};
 use tpf_base::OutOfMemory;
 
 /// The triples of a page, which contracts see as a list.
-#[derive(Debug, Drop)]
+#[derive(Drop)]
 pub struct TripleList {
     triples: Vec<Triple>,
 }
@@ -47,7 +47,7 @@ impl TripleList {
 /// A page of a fragment (Triple Pattern Fragments, "Data", "Metadata" and "Controls"): its triples, each once, in the
 /// order of their first lines; the number of triples that the fragment is said to have; the address of the next page, if
 /// there is one; the form of the server; and the version of its data, where exactly one is said, in 1 to 19 digits.
-#[derive(Debug, Drop)]
+#[derive(Drop)]
 pub struct Page {
     pub triples: TripleList,
     pub count: u64,
@@ -57,7 +57,7 @@ pub struct Page {
 }
 
 /// Why a body is no page. The first that applies, in this order, is told.
-#[derive(Clone, Copy, Debug, PartialEq, Eq)]
+#[derive(Clone, Copy, Debug)]
 pub enum PageFault {
     /// It is no N-Quads text, or a term's canonical text has more than `LONGEST_READ` (4194304) bytes, or a label more
     /// than `LONGEST_LABEL` (1024).

@@ -11,7 +11,7 @@ use tpf_base::Steps;
 use triple_table::{IdPattern, Order, Range, Table};
 
 /// A page of a fragment: the triples at the places from `from` up to, and without, `to` of `range`.
-#[derive(Clone, Copy, PartialEq, Eq, Debug)]
+#[derive(Clone, Copy)]
 pub struct PageView {
     /// The whole fragment, as a range of the table.
     pub range: Range,

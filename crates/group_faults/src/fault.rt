@@ -21,7 +21,7 @@ pub enum GroupWhy {
 }
 
 /// Why a text gives no query with groups.
-#[derive(Clone, Copy, Debug, PartialEq, Eq)]
+#[derive(Clone, Copy, Debug)]
 pub enum GroupFault {
     /// The first fault of the text and its place, in bytes from 0.
     Bad { at: usize, why: GroupWhy },

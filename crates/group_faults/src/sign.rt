@@ -5,7 +5,7 @@ ghost use Rattle.group_faults.specs.Signs.{sign_of, is_other};
 use query_words::word::Value;
 
 /// A token that stands between blocks, or another.
-#[derive(Clone, Copy, Debug, PartialEq, Eq)]
+#[derive(Clone, Copy)]
 pub enum Sign {
     Open,
     Close,

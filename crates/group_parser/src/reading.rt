@@ -70,7 +70,7 @@ pub fn parse_group(alloc: Global, text: &[u8]) -> Result<GroupQuery, GroupFault>
 }
 
 /// A query: one basic graph pattern, or groups.
-#[derive(Debug, Drop)]
+#[derive(Drop)]
 pub enum Asked {
     Plain(Query),
     Groups(GroupQuery),

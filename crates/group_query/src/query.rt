@@ -11,7 +11,7 @@ use text_base::Text;
 
 /// A query with groups: the steps of its group, the names in it, those that are selected, and whether each
 /// row stands once. Each name in it has a text, and each fixed part is a valid term and no blank node.
-#[derive(Debug, Drop)]
+#[derive(Drop)]
 pub struct GroupQuery {
     steps: Vec<Step>,
     shown: Query,

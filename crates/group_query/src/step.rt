@@ -5,7 +5,7 @@ use bgp_core::Pattern;
 use std::marker::Model;
 
 /// The triple patterns of a block, a basic graph pattern, in their order.
-#[derive(Debug, Drop)]
+#[derive(Drop)]
 pub struct Patterns {
     list: Vec<Pattern>,
 }
@@ -37,7 +37,7 @@ impl Patterns {
 
 /// A step of a group in postfix order (SPARQL 1.1, section 18.2.1): a block or the empty group, or what
 /// joins the two groups of the steps before it, the left one standing first.
-#[derive(Debug, Drop)]
+#[derive(Drop)]
 pub enum Step {
     /// A basic graph pattern.
     Block(Patterns),

@@ -5,7 +5,7 @@ use bgp_core::Row;
 use std::marker::Model;
 
 /// The rows of a block or of a group, each as often as SPARQL counts it.
-#[derive(Debug, Drop)]
+#[derive(Drop)]
 pub struct Rows {
     list: Vec<Row>,
 }

@@ -2,7 +2,7 @@
 use tpf_base::{Bytes, Text};
 
 /// The method of a request (RFC 9110, section 9.3).
-#[derive(Clone, Copy, Debug, PartialEq, Eq)]
+#[derive(Clone, Copy)]
 pub enum Asked {
     /// The method `GET`.
     Get,
@@ -13,7 +13,7 @@ pub enum Asked {
 }
 
 /// What a server takes from the head of a request.
-#[derive(Debug, Drop)]
+#[derive(Drop)]
 pub struct RequestHead {
     /// What is asked for the target.
     pub method: Asked,
@@ -26,7 +26,7 @@ pub struct RequestHead {
 }
 
 /// What stands next in the bytes of a connection.
-#[derive(Debug, Drop)]
+#[derive(Drop)]
 pub enum NextHead {
     /// No further whole head, and the limit is not reached.
     More,
@@ -42,7 +42,7 @@ pub enum NextHead {
 }
 
 /// A field of the head of an answer.
-#[derive(Debug, Drop)]
+#[derive(Drop)]
 pub struct Field {
     /// The name, as it is written.
     pub name: Text,
@@ -51,7 +51,7 @@ pub struct Field {
 }
 
 /// A reply with status 200 whose body is N-Quads text.
-#[derive(Debug, Drop)]
+#[derive(Drop)]
 pub struct Reply {
     /// The body, without what frames it in chunks; at most as many bytes as the limit of the feed.
     pub body: Bytes,
@@ -60,7 +60,7 @@ pub struct Reply {
 }
 
 /// What a reply feed answers.
-#[derive(Clone, Copy, Debug, PartialEq, Eq)]
+#[derive(Clone, Copy)]
 pub enum Fed {
     /// The reply goes on.
     More,

@@ -12,7 +12,7 @@ use tpf_base::Text;
 ///
 /// The base has no query part, the page size is 1 to `LARGEST_PAGE` (1000), and the path is written and
 /// not that of the base. Contracts see it as the record of the four.
-#[derive(Debug, Drop)]
+#[derive(Drop)]
 pub struct Config {
     base: WebAddress,
     page_size: u64,

@@ -7,7 +7,7 @@ use tpf_base::OutOfMemory;
 
 /// Which bytes of a text are written that is given in parts, one after another: so many behind the first
 /// ones. So a long text is written in pieces, of which none is longer than the caller says.
-#[derive(Clone, Copy, Debug)]
+#[derive(Clone, Copy)]
 pub struct Cut {
     /// How many bytes are still passed over.
     pub skip: u128,

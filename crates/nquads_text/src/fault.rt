@@ -21,7 +21,7 @@ pub enum Why {
 }
 
 /// Why a text is not read.
-#[derive(Clone, Copy, Debug, PartialEq, Eq)]
+#[derive(Clone, Copy, Debug)]
 pub enum TextFault {
     /// The first line with a fault, counted from 1, and its first fault. A number above `u64::MAX` is told as that.
     Bad { line: u64, why: Why },

@@ -66,7 +66,7 @@ fn quad(quad: LooseQuad) -> Quad
 }
 
 /// Why a line is not read.
-#[derive(Clone, Copy, Debug, PartialEq, Eq)]
+#[derive(Clone, Copy, Debug)]
 pub enum LineFault {
     Bad(Why),
     OutOfMemory,

@@ -19,7 +19,7 @@ use tpf_base::{OutOfMemory, Text};
 const HEAD: usize = 256;
 
 /// What a body is (RFC 9110, section 8.3.1).
-#[derive(Clone, Copy, Debug, PartialEq, Eq)]
+#[derive(Clone, Copy)]
 pub enum MediaType {
     NQuads,
     PlainText,

@@ -5,7 +5,7 @@ ghost use Rattle.page_responses.specs.Statuses.{body_text, code};
 use http::StatusCode;
 
 /// The status of an answer (RFC 9110, section 15; RFC 6585, section 5).
-#[derive(Clone, Copy, PartialEq, Eq, Debug)]
+#[derive(Clone, Copy, PartialEq, Eq)]
 pub enum Status {
     /// 200
     Success,

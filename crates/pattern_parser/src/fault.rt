@@ -26,7 +26,7 @@ pub enum QueryWhy {
 }
 
 /// Why a text gives no query.
-#[derive(Clone, Copy, Debug, PartialEq, Eq)]
+#[derive(Clone, Copy, Debug)]
 pub enum QueryFault {
     /// The first fault of the text and its place, in bytes from 0.
     Bad { at: usize, why: QueryWhy },

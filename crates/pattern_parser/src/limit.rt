@@ -13,7 +13,7 @@ use query_words::word::{Value, Word};
 pub const MOST_PATTERNS: usize = 64;
 
 /// What a token is in a block.
-#[derive(Clone, Copy, PartialEq, Eq)]
+#[derive(Clone, Copy)]
 pub enum Role {
     /// A term or name.
     Part,
@@ -23,7 +23,7 @@ pub enum Role {
 }
 
 /// Which part of a triple pattern the next term or name is.
-#[derive(Clone, Copy, PartialEq, Eq)]
+#[derive(Clone, Copy)]
 pub enum Next {
     Subject,
     Verb,
@@ -110,7 +110,7 @@ impl Walk {
 
 /// What a block leaves of a number of patterns: the place of the object that completes one too many, or
 /// how many more there may be.
-#[derive(Clone, Copy, Debug, PartialEq, Eq)]
+#[derive(Clone, Copy)]
 pub enum PatternCount {
     Over(usize),
     Left(usize),

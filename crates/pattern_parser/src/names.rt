@@ -9,7 +9,7 @@ use text_base::{OutOfMemory, Text};
 
 /// The names of a query in the order of their numbers, and a map that has the number of each text
 /// but that of an anonymous node.
-#[derive(Debug, Drop)]
+#[derive(Drop)]
 pub struct Names {
     pub texts: Vec<Text>,
     pub places: BTreeMap<String, u32>,

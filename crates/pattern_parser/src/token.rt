@@ -48,7 +48,7 @@ pub enum TokenKind {
 
 /// A token: the place of its first byte, counted from 0, that of the byte past its last, and its
 /// kind.
-#[derive(Clone, Copy, Debug, PartialEq, Eq)]
+#[derive(Clone, Copy)]
 pub struct Token {
     pub at: usize,
     pub to: usize,

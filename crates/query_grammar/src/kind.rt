@@ -1,7 +1,7 @@
 // The kinds of token that the grammar of queries tells apart.
 
 /// What a token is to the grammar (SPARQL 1.1, section 19.8). A word is a keyword, or another.
-#[derive(Clone, Copy, Debug, PartialEq, Eq)]
+#[derive(Clone, Copy, Debug)]
 pub enum Kind {
     /// IRIREF.
     Iri,

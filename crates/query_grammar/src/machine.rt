@@ -6,7 +6,7 @@ ghost use Rattle.query_grammar.specs.Steps.{next, is_end};
 use crate::kind::Kind;
 
 /// Where the machine stands between two tokens.
-#[derive(Clone, Copy, Debug, PartialEq, Eq)]
+#[derive(Clone, Copy, PartialEq, Eq)]
 pub enum State {
     Start,
     AfterPrefixWord,

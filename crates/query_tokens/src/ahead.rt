@@ -7,7 +7,7 @@ use crate::class::{Class, class_of};
 
 /// A run of characters of names, as far as it was scanned: the places from `from` to before
 /// `end`, and whether the name that goes on at each of them comes to a colon.
-#[derive(Clone, Copy, Debug)]
+#[derive(Clone, Copy)]
 pub struct Run {
     pub from: usize,
     pub end: usize,

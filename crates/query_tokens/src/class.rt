@@ -5,7 +5,7 @@ ghost use Rattle.query_tokens.specs.Sets.{is_in, white, letter, letter_or_digit,
 
 /// What a character is to the tokens: one class for all characters that no production of the
 /// grammar tells apart.
-#[derive(Clone, Copy, Debug, PartialEq, Eq)]
+#[derive(Clone, Copy)]
 pub enum Class {
     Space,
     LineEnd,

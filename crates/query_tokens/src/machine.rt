@@ -7,7 +7,7 @@ use crate::class::Class;
 use crate::kind::PieceKind;
 
 /// Where the machine stands inside a token.
-#[derive(Clone, Copy, Debug, PartialEq, Eq)]
+#[derive(Clone, Copy)]
 pub enum State {
     Start,
     White,

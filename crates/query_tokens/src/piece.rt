@@ -16,7 +16,7 @@ pub const LONGEST_QUERY: usize = 262144;
 
 /// A token: its kind, the place of its first character and how many it has, and the places of
 /// its first byte and of the byte past its last. Places count from 0, bytes are those of UTF-8.
-#[derive(Clone, Copy, Debug, PartialEq, Eq)]
+#[derive(Clone, Copy)]
 pub struct Piece {
     pub kind: PieceKind,
     pub place: usize,
@@ -26,7 +26,7 @@ pub struct Piece {
 }
 
 /// Why a text has no tokens.
-#[derive(Clone, Copy, Debug, PartialEq, Eq)]
+#[derive(Clone, Copy, Debug)]
 pub enum PieceFault {
     /// The place of the byte that begins no token, white space or comment.
     At(usize),

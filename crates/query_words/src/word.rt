@@ -15,7 +15,7 @@ use text_base::{OutOfMemory, Text};
 
 /// What a token says: its text without its marks and with its escapes resolved, or which word or
 /// mark it is.
-#[derive(Debug, Drop)]
+#[derive(Drop)]
 pub enum Value {
     /// An IRI, as it is written between `<` and `>`.
     Iri(Text),
@@ -69,7 +69,7 @@ pub enum Value {
 }
 
 /// What a token says, with the place of its first byte, counted from 0.
-#[derive(Debug, Drop)]
+#[derive(Drop)]
 pub struct Word {
     pub at: usize,
     pub value: Value,

@@ -32,7 +32,7 @@ pub fn is_datatype(text: &str) -> bool
 }
 
 /// A datatype of a typed literal, which contracts see as its bytes.
-#[derive(Debug, Drop)]
+#[derive(Drop)]
 pub struct Datatype {
     text: Text,
 }

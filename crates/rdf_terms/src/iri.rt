@@ -70,7 +70,7 @@ pub fn is_iri(text: &str) -> bool
 }
 
 /// An IRI with a scheme, which contracts see as its bytes.
-#[derive(Debug, Drop)]
+#[derive(Drop)]
 pub struct IriText {
     text: Text,
 }

@@ -68,7 +68,7 @@ pub fn is_label(text: &str) -> bool
 }
 
 /// A label of a blank node, of any length, which contracts see as its bytes.
-#[derive(Debug, Drop)]
+#[derive(Drop)]
 pub struct Label {
     text: Text,
 }

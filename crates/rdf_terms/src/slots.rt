@@ -6,14 +6,14 @@ use std::alloc::Global;
 use text_base::{OutOfMemory, all_three};
 
 /// One place of a triple pattern: free (a variable), or fixed to a term.
-#[derive(PartialEq, Eq, Debug, Drop)]
+#[derive(PartialEq, Eq, Drop)]
 pub enum Slot {
     Any,
     Fixed(Term),
 }
 
 /// The three places of a triple pattern (Triple Pattern Fragments, "Fragments").
-#[derive(PartialEq, Eq, Debug, Drop)]
+#[derive(PartialEq, Eq, Drop)]
 pub struct Slots {
     pub subject: Slot,
     pub predicate: Slot,

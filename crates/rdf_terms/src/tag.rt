@@ -60,7 +60,7 @@ pub fn lowered(alloc: Global, text: &str) -> Result<Text, OutOfMemory>
 
 /// A language tag in lower case, which contracts see as its bytes. RDF takes tags that differ in case for one (RDF 1.1
 /// Concepts 3.3), so each is kept in lower case.
-#[derive(Debug, Drop)]
+#[derive(Drop)]
 pub struct Tag {
     text: Text,
 }

@@ -15,7 +15,7 @@ use text_base::{OutOfMemory, Text, all_three};
 
 /// The kind of a literal (RDF 1.1 Concepts 3.3): plain, whose datatype is xsd:string; typed; or tagged, whose datatype is
 /// rdf:langString.
-#[derive(Debug, Drop)]
+#[derive(Drop)]
 pub enum Kind {
     Plain,
     Typed(Datatype),
@@ -23,7 +23,7 @@ pub enum Kind {
 }
 
 /// A term of RDF (RDF 1.1 Concepts 3.1): an IRI, a blank node, or a literal with its lexical form.
-#[derive(Debug, Drop)]
+#[derive(Drop)]
 pub enum Term {
     Iri(IriText),
     Blank(Label),
@@ -31,7 +31,7 @@ pub enum Term {
 }
 
 /// A generalized triple: any three terms (RDF 1.1 Concepts 7).
-#[derive(Debug, Drop)]
+#[derive(Drop)]
 pub struct Triple {
     pub subject: Term,
     pub predicate: Term,
@@ -39,14 +39,14 @@ pub struct Triple {
 }
 
 /// A triple and the graph that it stands in; `None` is the default graph.
-#[derive(PartialEq, Eq, Debug, Drop)]
+#[derive(Drop)]
 pub struct Quad {
     pub triple: Triple,
     pub graph: Option<Term>,
 }
 
 /// Why a term was not made.
-#[derive(Clone, Copy, Debug, PartialEq, Eq)]
+#[derive(Clone, Copy, Debug)]
 pub enum TermFault {
     /// The text, or that of the datatype, is no IRI with a scheme.
     Iri,

@@ -26,7 +26,7 @@ pub const LONGEST_TARGET: usize = 65536;
 
 /// The most rows for which one request asks: from 1, which is row by row, to `MOST_ROWS` (64).
 /// Contracts see it as that number.
-#[derive(Clone, Copy, Debug, PartialEq, Eq)]
+#[derive(Clone, Copy, PartialEq, Eq)]
 pub struct BlockSize {
     rows: usize,
 }
@@ -75,7 +75,7 @@ impl BlockSize {
 }
 
 /// Rows that are asked for together, one or more. Contracts see them as their list.
-#[derive(Debug, Drop)]
+#[derive(Drop)]
 pub struct RowBlock {
     first: Row,
     others: Vec<Row>,
@@ -146,7 +146,7 @@ impl RowBlock {
 
 /// How rows are cut into blocks: at most so many rows, by the targets under the first of some
 /// forms.
-#[derive(Debug, Drop)]
+#[derive(Drop)]
 pub struct Cut {
     pub forms: FormList,
     pub block: BlockSize,

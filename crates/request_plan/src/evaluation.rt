@@ -19,14 +19,14 @@ use tpf_base::OutOfMemory;
 
 /// A page to ask for by its address, and the ticket under which it is to be answered, a number that
 /// is given once.
-#[derive(Debug, Drop)]
+#[derive(Drop)]
 pub struct Ask {
     pub ticket: u64,
     pub address: WebAddress,
 }
 
 /// What became of a page: it was taken, or its ticket is not out, and then the page was dropped.
-#[derive(Clone, Copy, Debug, PartialEq, Eq)]
+#[derive(Clone, Copy)]
 pub enum Answered {
     Taken,
     Stranger,

@@ -9,7 +9,7 @@ use std::alloc::Global;
 /// The page of a round: the triples that are new, each once; how many triples the fragments are
 /// said to have together; and the next round, if there is a further page. Of one server it is the
 /// server's page.
-#[derive(Debug, Drop)]
+#[derive(Drop)]
 pub struct JointPage {
     pub triples: TripleList,
     pub count: u128,

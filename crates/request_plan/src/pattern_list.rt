@@ -11,7 +11,7 @@ use std::rc::Rc;
 use tpf_base::OutOfMemory;
 
 /// Patterns of a query, each shared by all lists that hold it. Contracts see them as their list.
-#[derive(Debug, Drop)]
+#[derive(Drop)]
 pub struct PatternList {
     patterns: Vec<Rc<Pattern>>,
 }

@@ -20,7 +20,7 @@ use tpf_base::OutOfMemory;
 
 /// The forms of the servers that are asked, one or more, in the order of the servers. Contracts see
 /// them as their list.
-#[derive(Debug, Drop)]
+#[derive(Drop)]
 pub struct FormList {
     first: Form,
     others: Vec<Form>,
@@ -122,7 +122,7 @@ impl FormList {
 }
 
 /// Triples, each once. Contracts see them as their list in the order of triples.
-#[derive(Debug, Drop)]
+#[derive(Drop)]
 pub struct TripleSet {
     triples: BTreeSet<Triple>,
 }
@@ -170,7 +170,7 @@ impl TripleSet {
 /// Where there are several servers, the triples of the pages before stand beside the addresses,
 /// since a triple of one server may come again from another: they are shared by the copies of a
 /// round.
-#[derive(Debug, Drop)]
+#[derive(Drop)]
 pub struct Round {
     first: WebAddress,
     others: Vec<WebAddress>,
@@ -273,7 +273,7 @@ impl Round {
 
 /// A round to ask for, and the ticket under which its page is to be answered, a number that is
 /// given once.
-#[derive(Debug, Drop)]
+#[derive(Drop)]
 pub struct RoundAsk {
     pub ticket: u64,
     pub round: Round,

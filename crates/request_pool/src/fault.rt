@@ -8,7 +8,7 @@ use template_fill::WebAddress;
 use tpf_base::Bytes;
 
 /// What a step came to.
-#[derive(Debug, Drop)]
+#[derive(Drop)]
 pub enum Stepped {
     /// The whole reply to the request for the address of a ticket, which is held no longer. The address
     /// is handed back with it.

@@ -23,7 +23,7 @@ use tpf_base::OutOfMemory;
 /// port 80 is not written, and the path is not empty (sections 6.2.2.1 and 6.2.3).
 ///
 /// Contracts see it by its parts, of which `address_text` gives the text.
-#[derive(Debug, Drop)]
+#[derive(Drop)]
 pub struct WebAddress {
     text: String,
     host_len: usize,

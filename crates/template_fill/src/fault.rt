@@ -3,7 +3,7 @@ use std::alloc::{AllocError, AllocFailed};
 use tpf_base::OutOfMemory;
 
 /// Why a text is no explicit form. At most one of the causes but `OutOfMemory` holds of a text.
-#[derive(Clone, Copy, Debug, PartialEq, Eq)]
+#[derive(Clone, Copy, Debug)]
 pub enum ValueFault {
     /// It begins with no quote, and is no IRI with a scheme.
     Iri,
@@ -18,7 +18,7 @@ pub enum ValueFault {
 }
 
 /// Why a text is no web address.
-#[derive(Clone, Copy, Debug, PartialEq, Eq)]
+#[derive(Clone, Copy, Debug)]
 pub enum AddressFault {
     /// It is none.
     BadAddress,
@@ -27,7 +27,7 @@ pub enum AddressFault {
 }
 
 /// Why a text is no template.
-#[derive(Clone, Copy, Debug, PartialEq, Eq)]
+#[derive(Clone, Copy, Debug)]
 pub enum TemplateFault {
     /// It is none.
     BadTemplate,

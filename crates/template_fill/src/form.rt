@@ -14,7 +14,7 @@ use tpf_base::{OutOfMemory, Text};
 
 /// A form of a fragment's server (hydra:search): a template, and the names of the variables for the
 /// subject, the predicate and the object.
-#[derive(Debug, Drop)]
+#[derive(Drop)]
 pub struct Form {
     /// The template of the addresses of first pages.
     pub template: Template,

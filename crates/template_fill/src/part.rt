@@ -16,7 +16,7 @@ use std::marker::Model;
 use tpf_base::Text;
 
 /// What an expression writes before its first pair (RFC 6570, sections 3.2.8 and 3.2.9).
-#[derive(Clone, Copy, Debug)]
+#[derive(Clone, Copy)]
 pub enum Operator {
     /// `{?names}`, the form-style query expansion.
     Query,
@@ -25,7 +25,7 @@ pub enum Operator {
 }
 
 /// An expression of a template, and the text that follows it.
-#[derive(Debug, Drop)]
+#[derive(Drop)]
 pub struct Part {
     operator: Operator,
     names: Vec<Text>,

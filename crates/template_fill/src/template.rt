@@ -18,7 +18,7 @@ use tpf_base::OutOfMemory;
 /// expressions `{?names}` and `{&names}` with texts of an address between them.
 ///
 /// Contracts see it by its parts.
-#[derive(Debug, Drop)]
+#[derive(Drop)]
 pub struct Template {
     start: WebAddress,
     parts: Vec<Part>,

@@ -9,7 +9,7 @@ use std::alloc::AllocError;
 use tpf_base::Text;
 
 /// A value of a template, by the name of its variable.
-#[derive(Debug, Drop)]
+#[derive(Drop)]
 pub struct Value {
     /// The name of the variable.
     pub name: Text,

@@ -7,7 +7,7 @@ use std::marker::Model;
 
 /// A sink that takes each piece whole, counts the bytes and keeps none of them. It never fails.
 /// Contracts see it as the count of the bytes, which stops at 2^64 - 1.
-#[derive(Debug, Drop)]
+#[derive(Drop)]
 pub struct Drain {
     bytes: u64,
 }

@@ -9,7 +9,7 @@ use std::marker::Model;
 ///
 /// The calls that can answer a fault count from 1, also those that failed, and the count stops at
 /// 2^64 - 1.
-#[derive(Debug, Drop)]
+#[derive(Drop)]
 pub enum Failing {
     /// No call.
     Never,
@@ -72,7 +72,7 @@ impl Failing {
 /// dials, and those that failed. Contracts see it as these counts and what it fails.
 ///
 /// Each count stops at 2^64 - 1.
-#[derive(Debug, Drop)]
+#[derive(Drop)]
 pub struct Failures {
     failing: Failing,
     calls: u64,

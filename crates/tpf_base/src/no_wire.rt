@@ -12,7 +12,7 @@ use std::marker::Model;
 /// at 2^64 - 1.
 ///
 /// `send`, `recv`, `dial`, `listen`, `accept` and `wait` answer `Failed`, and each such call counts.
-#[derive(Debug, Drop)]
+#[derive(Drop)]
 pub struct NoWire {
     faults: u64,
     door_faults: u64,

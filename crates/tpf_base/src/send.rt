@@ -6,7 +6,7 @@ ghost use Rattle.tpf_base.specs.Sending.{FrontSent, SendsFrom, SendsEnd};
 use crate::{Moved, Wire};
 
 /// How calls on a link came to an end.
-#[derive(Clone, Copy, Debug, PartialEq, Eq)]
+#[derive(Clone, Copy, Debug)]
 pub enum Halt {
     /// All bytes were sent.
     Done,

@@ -2,7 +2,7 @@
 use request_plan::BlockSize;
 
 /// What bounds a call.
-#[derive(Clone, Copy, Debug, PartialEq, Eq)]
+#[derive(Clone, Copy)]
 pub struct Options {
     /// How many nodes of the join may work at once, at least 1: so many rows are extended at a time.
     pub window: u32,
@@ -22,7 +22,7 @@ pub struct Options {
 }
 
 /// What a call tells at its end.
-#[derive(Clone, Copy, Debug, PartialEq, Eq)]
+#[derive(Clone, Copy)]
 pub struct Report {
     /// How many requests were started, those that were sent again counted each time.
     pub requests: u64,

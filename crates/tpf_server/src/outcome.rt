@@ -1,7 +1,7 @@
 // How a reload came out.
 
 /// How a reload came out.
-#[derive(Clone, Copy, Debug, PartialEq, Eq)]
+#[derive(Clone, Copy)]
 pub enum Reloaded {
     /// The data were read again, and are this version: answered 200, with the number (RFC 9110,
     /// section 15).

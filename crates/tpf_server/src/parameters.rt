@@ -43,7 +43,7 @@ impl Parameters {
 }
 
 /// A number of a page as parameters give it.
-#[derive(Clone, Copy, PartialEq, Eq)]
+#[derive(Clone, Copy)]
 pub enum PageNumber {
     Number(u64),
     /// A number that 64 bits do not hold.

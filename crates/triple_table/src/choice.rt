@@ -5,7 +5,7 @@ use rdf_terms::Term;
 use tpf_base::Text;
 
 /// Which graphs of a dataset are served (RDF 1.1 Concepts 4).
-#[derive(Debug, Drop)]
+#[derive(Drop)]
 pub enum Choice {
     /// The triples of the default graph.
     DefaultGraph,

@@ -19,7 +19,7 @@ use std::alloc::Global;
 use tpf_base::{OutOfMemory, Text};
 
 /// Why the data of a file can't be served.
-#[derive(PartialEq, Eq, Debug, Drop)]
+#[derive(Debug, Drop)]
 pub enum BuildFault {
     /// The Skolem IRI (RDF 1.1 Concepts 3.5) of the blank node with this label, which the name calls its
     /// genid, stands in the triples already.

@@ -6,7 +6,7 @@ use std::cmp::Ordering;
 
 /// A triple by the ids of its terms, which are their places, from 0, in the sorted term dictionary; so it
 /// is ordered as its triple is.
-#[derive(Clone, Copy, PartialEq, Eq, PartialOrd, Ord, Debug)]
+#[derive(Clone, Copy, PartialEq, Eq, PartialOrd, Ord)]
 pub struct IdTriple {
     pub subject: u32,
     pub predicate: u32,
@@ -15,7 +15,7 @@ pub struct IdTriple {
 
 /// A pattern by the ids of its fixed terms, as `Table::id` gives them; a place without an id matches
 /// every term. The ids are those of one table, and mean nothing at another.
-#[derive(Clone, Copy, PartialEq, Eq, Debug)]
+#[derive(Clone, Copy, PartialEq, Eq)]
 pub struct IdPattern {
     pub subject: Option<u32>,
     pub predicate: Option<u32>,
@@ -23,7 +23,7 @@ pub struct IdPattern {
 }
 
 /// The place by which rows are ordered first, then second, then third.
-#[derive(Clone, Copy, PartialEq, Eq, Debug)]
+#[derive(Clone, Copy, PartialEq, Eq)]
 pub enum Order {
     /// Subject, predicate, object.
     Spo,
@@ -36,7 +36,7 @@ pub enum Order {
 /// The rows of an order from a place up to, and without, another: the triples that match a pattern,
 /// as `Table::range` gives them. Places count from 0, over all triples of that table in this order;
 /// the range is empty where `from` and `to` are the same.
-#[derive(Clone, Copy, PartialEq, Eq, Debug)]
+#[derive(Clone, Copy, PartialEq, Eq)]
 pub struct Range {
     pub order: Order,
     pub from: usize,
