@@ -1,5 +1,15 @@
-// What is left of a regular expression, which of them match the empty text, and which match some text.
-ghost use Rattle.regular_expressions.specs.Regular.{LeftIsExact, NullableIsExact, AliveBegins};
+// What a regular expression matches and begins, what is left of one after a letter, and which match the empty text.
+ghost use Rattle.regular_expressions.specs.Regular.{MatchingIsDecided, BeginningIsDecided, LeftIsExact, NullableIsExact, AliveBegins};
+
+/// A text matches an expression or does not; what is left after the text says which.
+pub fn matching_is_decided()
+    ensures { MatchingIsDecided }
+{}
+
+/// A text is a prefix of some text that matches an expression, or of none.
+pub fn beginning_is_decided()
+    ensures { BeginningIsDecided }
+{}
 
 /// What is left of an expression after a letter matches exactly the texts that may follow it.
 pub fn left_is_exact()

@@ -1,7 +1,19 @@
 // What the definitions of queries say of every text.
 ghost use Rattle.pattern_parser.specs.Productions.{AsProduced};
+ghost use Rattle.pattern_parser.specs.Queries.{OneQuery};
 ghost use Rattle.pattern_parser.specs.Read.{ReadAsProduced};
 ghost use Rattle.pattern_parser.specs.Written.{TermsAsWritten};
+
+use crate::tokens::{one_fault, one_reading};
+
+/// A text is exactly one of the two: one query, or a text with one first fault, which has a kind
+/// and a place.
+pub fn one_query()
+    ensures { OneQuery }
+{
+    one_reading();
+    one_fault();
+}
 
 /// The patterns that the productions of a block give, each its own (TriplesBlock, TriplesSameSubject,
 /// PropertyListNotEmpty, ObjectList; SPARQL 1.1, section 19.8), are those that are read.

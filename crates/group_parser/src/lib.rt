@@ -13,7 +13,6 @@
 #![tactic(auto)]
 
 mod build;
-pub mod laws;
 mod reading;
 mod walk;
 

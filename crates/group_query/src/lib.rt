@@ -16,7 +16,6 @@
 //! ```
 #![tactic(auto)]
 
-pub mod laws;
 mod query;
 mod step;
 

@@ -17,7 +17,6 @@ mod ahead;
 mod class;
 pub mod escape;
 pub mod kind;
-pub mod laws;
 mod longest;
 mod machine;
 pub mod piece;

@@ -13,15 +13,3 @@
 //! }
 //! ```
 #![tactic(auto)]
-
-ghost use Rattle.regular_expressions.specs.Regular.{MatchingIsDecided, BeginningIsDecided};
-
-/// A text matches an expression or does not; what is left after the text says which.
-pub fn matching_is_decided()
-    ensures { MatchingIsDecided }
-{}
-
-/// A text is a prefix of some text that matches an expression, or of none.
-pub fn beginning_is_decided()
-    ensures { BeginningIsDecided }
-{}

@@ -1,5 +1,5 @@
 use Rattle.group_parser.proofs.Texts.{one_query, one_first, query_apart, some_query}
-use Rattle.group_parser.proofs.laws.one_group_query.Goals as goal
+use Rattle.definition_laws.proofs.groups.one_group_query.Goals as goal
 
 pub returns : goal.returns
 returns c = record {

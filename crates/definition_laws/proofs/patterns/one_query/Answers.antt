@@ -1,6 +1,6 @@
 use Rattle.pattern_parser.proofs.OneQuery.{one_query, one_first, query_apart}
 use Rattle.pattern_parser.proofs.SomeQuery.{some_query}
-use Rattle.pattern_parser.proofs.laws.one_query.Goals as goal
+use Rattle.definition_laws.proofs.patterns.one_query.Goals as goal
 
 pub returns : goal.returns
 returns c = record {

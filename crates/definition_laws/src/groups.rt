@@ -1,8 +1,10 @@
-// Laws of the definitions.
+// What the definitions of queries with groups say of every text and tree.
 ghost use Rattle.group_parser.specs.Texts.{OneGroupQuery, PlainTextsAgree};
+ghost use Rattle.group_query.specs.Laws.{StepsAreTrees};
 
-use pattern_parser::laws::one_query;
-use query_grammar::laws::{one_group_fault, plain_is_query};
+use crate::patterns::one_query;
+use crate::tokens::one_group_fault;
+use query_grammar::laws::plain_is_query;
 
 /// A text is exactly one of the two: one query with groups, or a text with one first fault, which has a
 /// kind and a place.
@@ -20,3 +22,8 @@ pub fn plain_texts_agree()
 {
     plain_is_query();
 }
+
+/// Steps are those of one tree alone: the steps of a tree give that tree.
+pub fn steps_are_trees()
+    ensures { StepsAreTrees }
+{}

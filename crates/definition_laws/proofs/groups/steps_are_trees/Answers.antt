@@ -1,5 +1,5 @@
 use Rattle.group_query.proofs.Trees.{tree_back, is_postfix}
-use Rattle.group_query.proofs.laws.steps_are_trees.Goals as goal
+use Rattle.definition_laws.proofs.groups.steps_are_trees.Goals as goal
 
 pub returns : goal.returns
 returns c = record { tree = tree_back; postfix = is_postfix }

@@ -1,6 +1,6 @@
 use Rattle.group_faults.proofs.Texts.{token_is_fault}
 use Rattle.group_parser.proofs.Plain.{plain_query, plain_fault_at}
-use Rattle.group_parser.proofs.laws.plain_texts_agree.Goals as goal
+use Rattle.definition_laws.proofs.groups.plain_texts_agree.Goals as goal
 
 pub returns : goal.returns
 returns c = record {
