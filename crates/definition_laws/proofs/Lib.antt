@@ -1,0 +1,4 @@
+pub mod Longer
+pub mod Classes
+pub mod RowByRow
+pub mod Accounts
