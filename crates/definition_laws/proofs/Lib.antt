@@ -4,3 +4,7 @@ pub mod Groups
 pub mod TokenTexts
 pub mod AsRead
 pub mod AsWritten
+pub mod Longer
+pub mod Classes
+pub mod RowByRow
+pub mod Accounts

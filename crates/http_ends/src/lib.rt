@@ -1,6 +1,6 @@
 //! What one end of HTTP writes, the other reads: the laws that join the request texts of a client
 //! with the heads that a server finds, and the answers of a server with the replies that a client
-//! reads (RFC 9112); and the laws of the response to the bytes of a connection.
+//! reads (RFC 9112). Its proofs have too how the response to the bytes of a connection grows.
 //!
 //! A law is a function that does nothing: what its contract says is known where it was called. So a
 //! law above this crate calls those that it rests on:
@@ -18,15 +18,7 @@
 
 ghost use Rattle.http_ends.specs.Answers.{AnswersAreRead, AnswersHaveStatus, HeadsAreShort, KeptBeforeTheEnd, LongHeadsAreRefused, PagesAreNQuads, ReadingsStay, ServerAnswersAreRead};
 ghost use Rattle.http_ends.specs.Cuts.{NextAnswerIsCut, PartsAreNotOwed, RepliesAreCut, RequestIsSent, ResponseIsCut};
-ghost use Rattle.http_ends.specs.Requests.{AddressesArePlain, PartsHaveNone, PiecesAreRequests, RequestIsRead, RequestsAreCut, RequestsDiffer};
-ghost use Rattle.template_fill.specs.Responses.{LongerHistoriesAgree, MarksAreJoined, MarksArePadded, OneVersionIsMarked, ResponseAtGoesOn, ResponseBegins, ResponseGoesOn};
-
-/// The request for an address, where it has at most `HEAD_LIMIT` bytes (`tpf_base`), is read as the
-/// GET of its target, which does not close, and of exactly its length, whatever follows it; a proper
-/// prefix of it is no request yet. It ends at its only empty line (RFC 9112, sections 2.2 and 3).
-pub fn a_request_is_read()
-    ensures { RequestIsRead }
-{}
+ghost use Rattle.http_ends.specs.Requests.{AddressesArePlain, PartsHaveNone, PiecesAreRequests, RequestsAreCut, RequestsDiffer};
 
 /// The authority and the target of an address have no space, CR or LF (`plain`), so requests are
 /// told apart: equal bytes begin with equal requests, and none is a proper prefix of another
@@ -74,26 +66,4 @@ pub fn a_response_is_cut()
     ensures part { PartsAreNotOwed }
     ensures replies { RepliesAreCut }
     ensures next { NextAnswerIsCut }
-{}
-
-/// The response to the bytes of a connection only grows with them (RFC 9112, section 9.3): the
-/// answers to the heads at the front stay, and after them, unless one closes, come those to the
-/// bytes that were not read and the bytes that came (`goes_on`, `at` over one version). So the
-/// response to more bytes begins with that to fewer (`begins`).
-pub fn response_goes_on()
-    ensures goes_on { ResponseGoesOn }
-    ensures at { ResponseAtGoesOn }
-    ensures begins { ResponseBegins }
-{}
-
-/// Marks of bytes and of what is behind them are marks of the whole, where no version falls between
-/// them (`joined`). Marks of the first heads are padded to marks of all, by one version and, for a
-/// request of a reload, out of memory; the response begins with the same answers, and no further
-/// reload is answered (`padded`). A longer history changes neither the marks nor the response
-/// (`longer`). Over one version each head has that version as its mark (`one`).
-pub fn marks_go_on()
-    ensures joined { MarksAreJoined }
-    ensures padded { MarksArePadded }
-    ensures longer { LongerHistoriesAgree }
-    ensures one { OneVersionIsMarked }
 {}

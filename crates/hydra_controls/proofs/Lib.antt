@@ -6,4 +6,3 @@ pub mod TableLaws
 pub mod LineLaws
 pub mod WholeLaws
 pub mod LineRows
-pub mod Classes

@@ -15,7 +15,6 @@
 mod config;
 mod cut;
 mod facts;
-pub mod laws;
 mod line_table;
 mod line_text;
 mod lines;
@@ -27,6 +26,5 @@ mod whole;
 
 pub use config::Config;
 pub use cut::Cut;
-pub use laws::metadata_is_rdf;
 pub use lines::MetadataLines;
 pub use pages::{address, metadata};

@@ -11,7 +11,6 @@ pub mod Least
 pub mod Marks
 pub mod Cutting
 pub mod Promises
-pub mod Accounts
 pub mod Scans
 pub mod Keyed
 pub mod Books

@@ -15,7 +15,6 @@ mod choice;
 mod evaluates;
 mod first;
 mod join;
-pub mod laws;
 mod level;
 mod levels;
 mod making;

@@ -7,10 +7,10 @@ ghost use Rattle.pool_laws.specs.Honest.{RefusedAsTooLongAlone};
 ghost use Rattle.template_fill.specs.Explicit.{ReadsBack};
 ghost use Rattle.template_fill.specs.Responses.{LongerHistoriesAgree, ResponseBegins};
 
-use http_ends::{marks_go_on, response_goes_on};
-use hydra_controls::metadata_is_rdf;
-use pool_laws::an_honest_reply_is_refused_as_too_long_alone;
-use template_fill::explicit_forms_read_back;
+use definition_laws::{
+    an_honest_reply_is_refused_as_too_long_alone, explicit_forms_read_back, marks_go_on,
+    metadata_is_rdf, response_goes_on,
+};
 
 /// What was sent of a response stays its prefix where more bytes come on the connection (`more`), and
 /// where the data are read again (`reloaded`).

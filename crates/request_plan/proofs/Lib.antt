@@ -7,7 +7,6 @@ pub mod Alike
 pub mod Asked
 pub mod Matching
 pub mod Grown
-pub mod RowByRow
 pub mod Targets
 pub mod Distinct
 pub mod Lengths

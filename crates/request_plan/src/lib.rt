@@ -18,7 +18,6 @@ mod block;
 mod evaluation;
 mod found;
 mod joint_page;
-pub mod laws;
 mod pattern_list;
 mod round;
 

@@ -28,10 +28,9 @@ pub use explicit_form::{explicit, read_explicit};
 pub use fault::{AddressFault, TemplateFault, ValueFault};
 pub use form::Form;
 pub use laws::{
-    address_reads_back, an_address_is_one, authorities_are_hosts_and_ports,
-    expansions_share_authority, explicit_forms_are_short, explicit_forms_are_text,
-    explicit_forms_read_back, first_page_is_expansion, pages_are_answered, pages_share_authority,
-    rows_read_back, versions_are_numbered, versions_are_valid,
+    an_address_is_one, authorities_are_hosts_and_ports, expansions_share_authority,
+    explicit_forms_are_short, first_page_is_expansion, pages_are_answered, pages_share_authority,
+    versions_are_valid,
 };
 pub use limits::{LARGEST_PAGE, LONGEST_START};
 pub use page::page_address;

@@ -1,5 +1,0 @@
-use Rattle.request_plan.proofs.Cuts.{are-cut}
-use Rattle.request_plan.proofs.laws.blocks_are_cut.Goals as goal
-
-pub returns : goal.returns
-returns c = are-cut

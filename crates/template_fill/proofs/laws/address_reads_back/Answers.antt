@@ -1,5 +1,0 @@
-use Rattle.template_fill.proofs.Questions.{reads_address_back}
-use Rattle.template_fill.proofs.laws.address_reads_back.Goals as goal
-
-pub returns : goal.returns
-returns c = reads_address_back

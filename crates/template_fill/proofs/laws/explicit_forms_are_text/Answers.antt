@@ -1,5 +1,0 @@
-use Rattle.template_fill.proofs.Quotes.{forms_are_text}
-use Rattle.template_fill.proofs.laws.explicit_forms_are_text.Goals as goal
-
-pub returns : goal.returns
-returns c = forms_are_text

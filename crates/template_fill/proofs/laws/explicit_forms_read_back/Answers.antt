@@ -1,5 +1,0 @@
-use Rattle.template_fill.proofs.Quotes.{reads_back}
-use Rattle.template_fill.proofs.laws.explicit_forms_read_back.Goals as goal
-
-pub returns : goal.returns
-returns c = reads_back
