@@ -1,12 +1,12 @@
-// What each public call of `tpf_base` does with ample memory.
+// What each public call of `tpf_base` and `memory_outside` does with ample memory.
 
 use crate::fails::Fails;
 use crate::long::long_bytes;
+use memory_outside::MemShelf;
 use std::alloc::{AllocError, Global};
 use std::test::Fail;
 use tpf_base::{
-    Bytes, Drain, Failing, Fault, FileFault, MemShelf, MemSink, Shelf, Sink, Text, read_file,
-    write_all,
+    Bytes, Drain, Failing, Fault, FileFault, MemSink, Shelf, Sink, Text, read_file, write_all,
 };
 
 /// Which calls fail, and a mark for each of six writes of one byte: a dot for one that took it, and F for one that

@@ -1,6 +1,5 @@
 // Faults of texts.
-use std::alloc::{AllocError, AllocFailed};
-use text_base::OutOfMemory;
+use std::alloc::AllocError;
 
 /// The faults of a line, by the grammar (RDF 1.1 N-Quads 4) and by the limits of the reader. The first of them in this
 /// order is told.
@@ -29,17 +28,6 @@ pub enum TextFault {
     OutOfMemory,
 }
 
-impl From<OutOfMemory> for TextFault {
-    ghost use Rattle.std.specs.Prelude.{◌≡◌};
-    ghost use Rattle.nquads_text.specs.declared.fault.TextFault.TheVariants.{OutOfMemory};
-
-    ghost from_gives = { λ _ e. e ≡ OutOfMemory };
-
-    fn from(_: OutOfMemory) -> Self {
-        TextFault::OutOfMemory
-    }
-}
-
 impl From<AllocError> for TextFault {
     ghost use Rattle.std.specs.Prelude.{◌≡◌};
     ghost use Rattle.nquads_text.specs.declared.fault.TextFault.TheVariants.{OutOfMemory};
@@ -47,17 +35,6 @@ impl From<AllocError> for TextFault {
     ghost from_gives = { λ _ e. e ≡ OutOfMemory };
 
     fn from(_: AllocError) -> Self {
-        TextFault::OutOfMemory
-    }
-}
-
-impl<T: Drop> From<AllocFailed<T>> for TextFault {
-    ghost use Rattle.std.specs.Prelude.{◌≡◌};
-    ghost use Rattle.nquads_text.specs.declared.fault.TextFault.TheVariants.{OutOfMemory};
-
-    ghost from_gives = { λ _ e. e ≡ OutOfMemory };
-
-    fn from(_: AllocFailed<T>) -> Self {
         TextFault::OutOfMemory
     }
 }

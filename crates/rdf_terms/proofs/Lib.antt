@@ -1,5 +1,4 @@
 pub mod Asked
-pub mod Books
 pub mod Canonical
 pub mod Ended
 pub mod Equality

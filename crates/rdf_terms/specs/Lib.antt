@@ -1,11 +1,9 @@
 pub mod Askable
-pub mod Book
 pub mod Canon
 pub mod Compare
 pub mod Datatype
 pub mod EqualityLaws
 pub mod Fragments
-pub mod Index
 pub mod Fronts
 pub mod Iri
 pub mod Kept

@@ -15,7 +15,6 @@
 //! ```
 #![tactic(auto)]
 
-mod book;
 mod canon;
 mod datatype;
 mod iri;
@@ -28,7 +27,6 @@ mod tag;
 mod term;
 mod valid;
 
-pub use book::TermBook;
 pub use canon::{after_mark, is_marked, marks};
 pub use datatype::{Datatype, is_datatype, is_lang_string, is_xsd_string};
 pub use iri::{IriText, has_scheme, is_iri, is_iri_byte};

@@ -1,8 +1,7 @@
 // What every term keeps, told by calls that do nothing.
-ghost use Rattle.rdf_terms.specs.Valid.{IsValidKind, IsValidTerm, IsValidTriple, IsValidGraph, IsValidQuad};
-ghost use Rattle.rdf_terms.specs.Kept.{IsValidSlot, AreValid};
+ghost use Rattle.rdf_terms.specs.Valid.{IsValidKind, IsValidTerm};
 
-use crate::{Kind, Quad, Slot, Slots, Term, Triple};
+use crate::{Kind, Term};
 
 impl Kind {
     /// The datatype and the tag of a literal keep their rules. The call does nothing; it tells a proof of it.
@@ -40,58 +39,5 @@ impl Term {
                 kind.is_valid();
             }
         }
-    }
-}
-
-impl Triple {
-    /// Each term of a triple keeps its rules. The call does nothing; it tells a proof of it.
-    pub fn is_valid(&self)
-        ensures { IsValidTriple self.now }
-    {
-        self.subject.is_valid();
-        self.predicate.is_valid();
-        self.object.is_valid();
-    }
-}
-
-fn graph_is_valid(graph: &Option<Term>)
-    ensures { IsValidGraph graph.now }
-{
-    match graph {
-        None => {}
-        Some(graph) => graph.is_valid(),
-    }
-}
-
-impl Quad {
-    /// Each term of a quad keeps its rules. The call does nothing; it tells a proof of it.
-    pub fn is_valid(&self)
-        ensures { IsValidQuad self.now }
-    {
-        self.triple.is_valid();
-        graph_is_valid(&self.graph);
-    }
-}
-
-impl Slot {
-    /// The term of a fixed slot keeps its rules. The call does nothing; it tells a proof of it.
-    pub fn is_valid(&self)
-        ensures { IsValidSlot self.now }
-    {
-        match self {
-            Slot::Any => {}
-            Slot::Fixed(term) => term.is_valid(),
-        }
-    }
-}
-
-impl Slots {
-    /// Each fixed term of the slots keeps its rules. The call does nothing; it tells a proof of it.
-    pub fn is_valid(&self)
-        ensures { AreValid self.now }
-    {
-        self.subject.is_valid();
-        self.predicate.is_valid();
-        self.object.is_valid();
     }
 }

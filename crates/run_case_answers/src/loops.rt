@@ -7,10 +7,11 @@ use file_server::server_of_file;
 use fragment_server::{FragmentConnection, FragmentServer};
 use hydra_controls::Config;
 use loop_wire::{Behind, LoopWire, Several};
+use memory_outside::MemShelf;
 use run_case_rows::{Failure, Outcome, Runs, Setup, ended_on, failure_of, push_sent};
 use std::alloc::Global;
 use template_fill::WebAddress;
-use tpf_base::{Bytes, MemShelf, Text, USUAL_PAGE};
+use tpf_base::{Bytes, Text, USUAL_PAGE};
 use triple_table::Choice;
 
 /// What was sent on a wire in one process.

@@ -2,8 +2,9 @@
 use crate::outcomes::Outcome;
 use crate::setups::{Failure, Setup, words_of};
 use case_rows::CaseFault;
+use memory_outside::NoWire;
 use std::alloc::Global;
-use tpf_base::{Accept, Dial, NoWire, Shelf};
+use tpf_base::{Accept, Dial, Shelf};
 
 /// What runs the program.
 pub trait Runs {

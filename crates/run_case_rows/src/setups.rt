@@ -1,8 +1,9 @@
 // The words and the files of a run, and what fails in it.
 use crate::program::{Runs, ended};
 use case_rows::{Case, CaseFault, word_text};
+use memory_outside::MemShelf;
 use std::alloc::Global;
-use tpf_base::{Bytes, Failing, MemShelf, MemSink, Text};
+use tpf_base::{Bytes, Failing, MemSink, Text};
 
 /// The words of a line, which has a `|` between each two.
 pub fn words_of(alloc: Global, line: &str) -> Result<Vec<String>, CaseFault> {

@@ -46,39 +46,6 @@ impl From<OutOfMemory> for ValueFault {
     }
 }
 
-impl From<AllocError> for ValueFault {
-    ghost use Rattle.std.specs.Prelude.{◌≡◌};
-    ghost use Rattle.template_fill.specs.declared.fault.ValueFault.TheVariants as faults;
-
-    ghost from_gives = { λ _ e. e ≡ faults.OutOfMemory };
-
-    fn from(_: AllocError) -> Self {
-        ValueFault::OutOfMemory
-    }
-}
-
-impl From<AllocError> for AddressFault {
-    ghost use Rattle.std.specs.Prelude.{◌≡◌};
-    ghost use Rattle.template_fill.specs.declared.fault.AddressFault.TheVariants as faults;
-
-    ghost from_gives = { λ _ e. e ≡ faults.OutOfMemory };
-
-    fn from(_: AllocError) -> Self {
-        AddressFault::OutOfMemory
-    }
-}
-
-impl From<OutOfMemory> for AddressFault {
-    ghost use Rattle.std.specs.Prelude.{◌≡◌};
-    ghost use Rattle.template_fill.specs.declared.fault.AddressFault.TheVariants as faults;
-
-    ghost from_gives = { λ _ e. e ≡ faults.OutOfMemory };
-
-    fn from(_: OutOfMemory) -> Self {
-        AddressFault::OutOfMemory
-    }
-}
-
 impl From<AllocError> for TemplateFault {
     ghost use Rattle.std.specs.Prelude.{◌≡◌};
     ghost use Rattle.template_fill.specs.declared.fault.TemplateFault.TheVariants as faults;

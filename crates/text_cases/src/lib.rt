@@ -30,7 +30,6 @@ impl Answers for Texts {
             "ascending" => orders::ascending(alloc, case),
             "triples" => orders::triples(alloc, case),
             "matches" => orders::matches(alloc, case),
-            "book" => orders::book(alloc, case),
             _ => Err(CaseFault::Row),
         }
     }

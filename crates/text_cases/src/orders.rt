@@ -1,9 +1,7 @@
-// The order of terms and triples, slots, and books of terms.
-ghost use Rattle.std.specs.Prelude.{◌<◌, length};
-
+// The order of terms and triples, and slots.
 use crate::terms::term_of;
-use case_rows::{Case, CaseFault, push_number, truth_text};
-use rdf_terms::{Slot, Slots, Term, TermBook, Triple};
+use case_rows::{Case, CaseFault, truth_text};
+use rdf_terms::{Slot, Slots, Term, Triple};
 use std::alloc::Global;
 use std::cmp::Ordering;
 
@@ -176,55 +174,4 @@ pub fn matches(alloc: Global, case: &mut Case<'_>) -> Result<String, CaseFault> 
     let triple = triple_in(alloc, case)?;
     let is_match = predicate_matches(alloc, case, &triple)?;
     truth_text(alloc, is_match)
-}
-
-/// The id of a term, which is found and read under it again.
-fn interned(book: &mut TermBook, term: &Term) -> Result<u32, CaseFault>
-    requires { length book.old < 4294967295 }
-{
-    let Ok(id) = book.intern(term) else {
-        return Err(CaseFault::OutOfMemory);
-    };
-    if book.find(term) != Some(id) || id as usize >= book.len() || !book.get(id).same(term) {
-        return Err(CaseFault::Differs);
-    }
-    Ok(id)
-}
-
-/// Appends the id of a term.
-fn push_id(
-    alloc: Global,
-    book: &mut TermBook,
-    term: &Term,
-    out: &mut String,
-) -> Result<(), CaseFault> {
-    if book.len() >= 1000 {
-        return Err(CaseFault::Row);
-    }
-    let id = interned(book, term)?;
-    push_number(alloc, id as u64, out)?;
-    Ok(out.push(' ')?)
-}
-
-/// The ids that a book gives terms one after another.
-fn ids_text(alloc: Global, book: &mut TermBook, terms: &[Term]) -> Result<String, CaseFault> {
-    let mut out = String::new(alloc);
-    for term in terms {
-        push_id(alloc, book, term, &mut out)?;
-    }
-    Ok(out)
-}
-
-/// The ids that a new book gives terms, and how many it has then.
-fn booked(alloc: Global, terms: &[Term]) -> Result<String, CaseFault> {
-    let mut book = TermBook::new(alloc);
-    let ids = ids_text(alloc, &mut book, terms)?;
-    let count = book.len();
-    Ok(format!(in alloc; "{ids}of {count}")?)
-}
-
-/// `terms`: the ids that a book gives them one after another, and how many it has then.
-pub fn book(alloc: Global, case: &mut Case<'_>) -> Result<String, CaseFault> {
-    let terms = terms_of(alloc, case)?;
-    booked(alloc, terms.as_slice())
 }

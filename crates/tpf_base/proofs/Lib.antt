@@ -1,6 +1,5 @@
 pub mod AddressBytes
 pub mod Appended
-pub mod Shelves
 pub mod Rooms
 pub mod SendingLemmas
 pub mod Heads

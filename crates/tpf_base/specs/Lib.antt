@@ -5,11 +5,9 @@ pub mod Decimals
 pub mod Wrote
 pub mod FileFaults
 pub mod Failures
-pub mod Files
 pub mod Memory
 pub mod Links
 pub mod Calls
-pub mod Unlinked
 pub mod Sending
 pub mod Addresses
 pub mod HttpReader

@@ -1,23 +1,18 @@
 //! What the program is handed from outside, as traits: files (`Shelf`), writers (`Sink`) and connections
-//! to other hosts (`Wire`), each with objects in memory that fail where they are told to.
+//! to other hosts (`Wire`); and a writer in memory that fails where it is told to.
 //!
-//! A file is found by its name and read whole, at most so many bytes:
-//!
-//! ```rust
-//! let mut files = Vec::new(alloc);
-//! files.push((Text::copy(alloc, "a.nq")?, Bytes::copy(alloc, b"abc")?))?;
-//! let mut shelf = MemShelf::new(alloc, files, Failing::Never);
-//! let bytes = read_file(alloc, &mut shelf, "a.nq", 65536);
-//! assert_eq!(rt; bytes, Ok(Vec::from_slice(alloc, b"abc")?));
-//! ```
-//!
-//! `write_all` writes bytes with as many writes as that takes, until one fails:
+//! `write_all` writes bytes with as many writes as that takes:
 //!
 //! ```rust
 //! let mut whole = MemSink::new(rt.alloc(), Failing::Never);
 //! assert_eq!(rt; write_all(&mut whole, b"abc"), Ok(()));
 //! assert_eq!(rt; write_all(&mut whole, b"def"), Ok(()));
 //! assert_eq!(rt; whole.taken(), b"abcdef".as_slice());
+//! ```
+//!
+//! It ends at the first that fails:
+//!
+//! ```rust
 //! let mut cut = MemSink::new(rt.alloc(), Failing::AfterBytes(4));
 //! assert_eq!(rt; write_all(&mut cut, b"abcdef"), Err(Fault::Failed));
 //! assert_eq!(rt; cut.taken(), b"abcd".as_slice());
@@ -29,10 +24,8 @@ mod drain;
 mod failing;
 mod fault;
 mod limits;
-mod mem_shelf;
 mod mem_sink;
 mod names;
-mod no_wire;
 mod send;
 mod shelf;
 mod sink;
@@ -48,10 +41,8 @@ pub use limits::{
     ENOUGH_PENDING, HEAD_LIMIT, HEADS_LIMIT, HIGHEST_NUMBER, HIGHEST_PORT, LINE_LIMIT,
     MOST_CHUNK_DIGITS, MOST_DIGITS, MOST_FIELDS, MOST_LINKS, PADDING_LIMIT,
 };
-pub use mem_shelf::MemShelf;
 pub use mem_sink::MemSink;
 pub use names::Names;
-pub use no_wire::NoWire;
 pub use send::{Halt, send_rest};
 pub use shelf::{FileFault, Shelf, read_file};
 pub use sink::{Sink, write_all};

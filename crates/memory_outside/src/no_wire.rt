@@ -1,11 +1,11 @@
 // A wire that gives no link.
 ghost use Rattle.std.specs.Prelude.{◌≡◌, ◌≤◌, Err};
 ghost use Rattle.tpf_base.specs.Causes.{HasCause, counted};
-ghost use Rattle.tpf_base.specs.Unlinked.{Attempts, unlinked, no_attempts, door_failed};
+ghost use Rattle.memory_outside.specs.Unlinked.{Attempts, unlinked, no_attempts, door_failed};
 ghost use Rattle.tpf_base.specs.Calls.{Sends, Receives, OnlyWaits, OnlyDials, OnlyListens, OnlyAccepts};
 
-use crate::{Accept, Dial, Fault, Moved, Ready, Wire};
 use std::marker::Model;
+use tpf_base::{Accept, Dial, Fault, Moved, Ready, Wire};
 
 /// A wire that gives no link: no connection is opened or accepted. Contracts see it as the counts of
 /// its faults, those of the door among them, its dials, its waits and its listens, each of which stops
@@ -70,7 +70,7 @@ impl NoWire {
 }
 
 impl Wire for NoWire {
-    ghost use Rattle.tpf_base.specs.Unlinked.{nothing_owed, nothing_allowed, all_told, none_open, no_wait};
+    ghost use Rattle.memory_outside.specs.Unlinked.{nothing_owed, nothing_allowed, all_told, none_open, no_wait};
 
     ghost state = { unlinked };
 

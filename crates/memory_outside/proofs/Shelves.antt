@@ -2,10 +2,10 @@
 use Rattle.std.proofs.Common.{ℕ, zero, suc, ◌≡◌, ◌<◌, Bool, true, List, [], ◌∷◌, ◌++◌, length, get_or, drop, Some, Option, slice_get, option_and_then, refl, subst, length-append, ap, sym, ◌∙◌, arith, Ok}
 use Rattle.std.proofs.Math.Seq.{drop-cons}
 use Rattle.std.specs.Str.{bytes_eq}
-use Rattle.tpf_base.specs.Memory.{shelf_of}
+use Rattle.memory_outside.specs.Memory.{shelf_of}
 use Rattle.tpf_base.specs.Failures.{CallCounts, spares_calls}
 use Rattle.tpf_base.specs.Outside.{content_of, Finds, FindsFile}
-use Rattle.tpf_base.specs.declared.mem_shelf.Opened.{Opened}
+use Rattle.memory_outside.specs.declared.mem_shelf.Opened.{Opened}
 
 pub content_at : (files : List (List ℕ × List ℕ)) (name : List ℕ) (i : ℕ) (file : List ℕ × List ℕ) → i < length files → file ≡ get_or files i file → bytes_eq file.0 name ≡ true → content_of (drop i files) name ≡ Some file.1
 content_at files name i file h e same =

@@ -1,6 +1,6 @@
 use Rattle.std.proofs.Common.{◌≡◌, ◌++◌, ◌∷◌, [], length, ◌∙◌, refl}
-use Rattle.tpf_base.proofs.Shelves.{finds_file}
-use Rattle.tpf_base.proofs.mem_shelf.MemShelfShelf.find.Goals as goal
+use Rattle.memory_outside.proofs.Shelves.{finds_file}
+use Rattle.memory_outside.proofs.mem_shelf.MemShelfShelf.find.Goals as goal
 
 pub returns-in-Ok-clause-finds : goal.returns-in-Ok-clause-finds
 returns-in-Ok-clause-finds c =

@@ -2,10 +2,10 @@
 ghost use Rattle.std.specs.Prelude.{ℕ, ◌≡◌, ◌≢◌, ◌+◌, ◌-◌, ◌^◌, ◌<◌, ◌≤◌, ◌⊎◌, ◌↔◌, ◌++◌, List, [], length, take, drop, min, Some, None, IsTrue, Err, IfOk, OnErr, IfSome, IfNone, IsErrOf, slice_get};
 ghost use Rattle.tpf_base.specs.Outside.{content_of, FindsFile, ReadsFile};
 ghost use Rattle.tpf_base.specs.Failures.{no_calls, is_next_due, room, CountsCall};
-ghost use Rattle.tpf_base.specs.Files.{file_rest};
+ghost use Rattle.memory_outside.specs.Files.{file_rest};
 
-use crate::{Bytes, Failing, Failures, Fault, Names, Shelf, Text};
 use std::alloc::Global;
+use tpf_base::{Bytes, Failing, Failures, Fault, Names, Shelf, Text};
 
 /// A file that was found: which of the contents, and how many of its bytes were read.
 #[derive(Clone, Copy)]
@@ -71,7 +71,7 @@ fn copy_front(failures: &Failures, moved: u64, from: &[u8], to: &mut [u8]) -> us
 }
 
 impl MemShelf {
-    ghost use Rattle.tpf_base.specs.Memory.{shelf_files, shelf_given, shelf_moved, shelf_counts, shelf_state};
+    ghost use Rattle.memory_outside.specs.Memory.{shelf_files, shelf_given, shelf_moved, shelf_counts, shelf_state};
 
     /// A shelf with these files, each a name and its bytes, of which none was found yet. It takes no
     /// memory.
@@ -93,13 +93,13 @@ impl MemShelf {
 }
 
 impl Shelf for MemShelf {
-    ghost use Rattle.tpf_base.specs.Memory.{shelf_files, shelf_given, shelf_rest, shelf_moved, shelf_counts, shelf_state};
+    ghost use Rattle.memory_outside.specs.Memory.{shelf_files, shelf_given, shelf_rest, shelf_moved, shelf_counts, shelf_state};
 
     ghost state = { shelf_state };
 
     /// `Failed` exactly where the call is due, the name is not held, or all 2^32 numbers were given;
     /// after an error no number was given.
-    #[tactic(auto, using(crate::proofs::Rooms::spared_next))]
+    #[tactic(auto, using(tpf_base::proofs::Rooms::spared_next))]
     fn find(&mut self, name: &str) -> Result<u32, Fault>
         ensures finds { FindsFile name.now (shelf_state self.old) (shelf_state self.new) result }
         ensures failed { IsErrOf result Fault.Failed
@@ -132,7 +132,7 @@ impl Shelf for MemShelf {
     }
 
     /// `Failed` exactly where the call is due, and then nothing was read; out of memory never comes.
-    #[tactic(auto, using(crate::proofs::Rooms::spared_next))]
+    #[tactic(auto, using(tpf_base::proofs::Rooms::spared_next))]
     fn read(&mut self, file: u32, to: &mut [u8]) -> Result<usize, Fault>
         requires given { file < shelf_given self.old }
         requires room { 0 < length to.old }

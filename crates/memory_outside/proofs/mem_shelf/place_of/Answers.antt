@@ -1,8 +1,8 @@
 use Rattle.std.proofs.Common.{◌∙◌, sym, ap, ℕ, ◌≡◌, ◌<◌, true, List, length, refl, arith}
 use Rattle.std.specs.Str.{bytes_eq}
 use Rattle.std.proofs.lemmas.Option.{slice_get_read}
-use Rattle.tpf_base.proofs.Shelves.{content_at}
-use Rattle.tpf_base.proofs.mem_shelf.place_of.Goals as goal
+use Rattle.memory_outside.proofs.Shelves.{content_at}
+use Rattle.memory_outside.proofs.mem_shelf.place_of.Goals as goal
 
 pub returns-then-eq-clause-found : goal.returns-then-eq-clause-found
 returns-then-eq-clause-found c =
