@@ -60,7 +60,7 @@ pub struct Reply {
 }
 
 /// What a reply feed answers.
-#[derive(Clone, Copy)]
+#[derive(Clone, Copy, PartialEq, Eq)]
 pub enum Fed {
     /// The reply goes on.
     More,

@@ -39,7 +39,7 @@ pub struct Triple {
 }
 
 /// A triple and the graph that it stands in; `None` is the default graph.
-#[derive(Drop)]
+#[derive(PartialEq, Eq, Drop)]
 pub struct Quad {
     pub triple: Triple,
     pub graph: Option<Term>,
