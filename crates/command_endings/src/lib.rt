@@ -13,11 +13,11 @@ mod ending;
 mod fault;
 mod lines;
 mod names;
-mod say;
+mod saying;
 mod status;
 
 pub use ending::Ending;
 pub use fault::{AnswerFault, Counts};
 pub use lines::write_sizes;
-pub use say::say;
+pub use saying::say;
 pub use status::Status;

@@ -1,7 +1,7 @@
 use Rattle.std.proofs.Common.{◌∙◌}
 use Rattle.command_endings.specs.Names.{why_text}
 use Rattle.command_endings.proofs.Said.{along, data_said, fault_line_of, label_line_of, file_line_of}
-use Rattle.command_endings.proofs.say.say_data.Goals as goal
+use Rattle.command_endings.proofs.saying.say_data.Goals as goal
 
 pub returns-in-Bad-clause-says : goal.returns-in-Bad-clause-says
 returns-in-Bad-clause-says g c =
