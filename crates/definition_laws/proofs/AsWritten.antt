@@ -38,7 +38,7 @@ use Rattle.definition_laws.proofs.GoodWords.{Good, AllGood, words_good}
 use Rattle.pattern_parser.proofs.Nexts.{is_iri_letter, Nexts, keeps_query}
 use Rattle.pattern_parser.proofs.Splits.{Is, Are, flat, none, one, marked, leaf, iri_leaf}
 use Rattle.pattern_parser.proofs.Blocks.{It, is_one, is_string, kind_more, more_by_kind, Stops, is_mark, marks, mark_read, verb_word}
-use Rattle.definition_laws.proofs.Groups.{group, is_point, groups_stop, groups_of}
+use Rattle.definition_laws.proofs.WordGroups.{group, is_point, groups_stop, groups_of}
 use Rattle.pattern_parser.proofs.Outline.{Outline, outline, body_is, block_is}
 
 -- ---- no fault

@@ -1,6 +1,6 @@
 pub mod DataSets
 pub mod GoodWords
-pub mod Groups
+pub mod WordGroups
 pub mod TokenTexts
 pub mod AsRead
 pub mod AsWritten
