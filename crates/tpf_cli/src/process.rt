@@ -20,6 +20,37 @@ pub fn words_of<R: Env + AllocGlobal>(rt: &R) -> io::Result<Vec<String>> {
     Ok(words.collect(rt.alloc())?)
 }
 
+/// Runs the program with these words over the files, the standard output and error, and the sockets of the
+/// system.
+fn run_words<R: Files + Streams + Net + Clock + Wait + AllocGlobal>(
+    rt: &R,
+    words: &[String],
+) -> ExitCode {
+    let alloc: Global = rt.alloc();
+    let mut shelf = DiskShelf::new(rt);
+    let mut wire = NetWire::new(rt);
+    let mut out = StreamSink::output(rt);
+    let mut err = StreamSink::errors(rt);
+    let mut inside = Inside::Unused;
+    let status = run(
+        rt,
+        alloc,
+        words,
+        &mut shelf,
+        &mut wire,
+        &mut out,
+        &mut err,
+        &mut inside,
+    );
+    ExitCode::from(status)
+}
+
+/// Says that memory ran out over the words.
+fn end_without_words<R: Streams>(rt: &R) -> ExitCode {
+    let _ = write_all(&mut StreamSink::errors(rt), b"memory\n");
+    ExitCode::from(8)
+}
+
 /// Runs the program with the words of the process over the files, the standard output and error, and
 /// the sockets of the system.
 ///
@@ -29,29 +60,9 @@ pub fn words_of<R: Env + AllocGlobal>(rt: &R) -> io::Result<Vec<String>> {
 pub fn run_process<R: Env + Files + Streams + Net + Clock + Wait + AllocGlobal>(
     rt: &R,
 ) -> ExitCode {
-    let alloc: Global = rt.alloc();
-    let mut shelf = DiskShelf::new(rt);
-    let mut wire = NetWire::new(rt);
-    let mut out = StreamSink::output(rt);
-    let mut err = StreamSink::errors(rt);
-    let words = match words_of(rt) {
-        Ok(words) => words,
-        Err(error) if error.kind() == io::ErrorKind::OutOfMemory => {
-            let _ = write_all(&mut err, b"memory\n");
-            return ExitCode::from(8);
-        }
-        Err(_) => Vec::new(alloc),
-    };
-    let mut inside = Inside::Unused;
-    let status = run(
-        rt,
-        alloc,
-        &words,
-        &mut shelf,
-        &mut wire,
-        &mut out,
-        &mut err,
-        &mut inside,
-    );
-    ExitCode::from(status)
+    match words_of(rt) {
+        Ok(words) => run_words(rt, &words),
+        Err(error) if error.kind() == io::ErrorKind::OutOfMemory => end_without_words(rt),
+        Err(_) => run_words(rt, &[]),
+    }
 }
