@@ -1,12 +1,10 @@
 // The bytes of a request and of the head of an answer.
-ghost use Rattle.std.specs.Prelude.{◌≡◌, ◌++◌, [], length, take, unwrap_or, OnOk, OnErr};
+ghost use Rattle.std.specs.Prelude.{◌≡◌, ◌++◌, length, take, OnOk, OnErr};
 ghost use Rattle.std.specs.List.{flat_map};
-ghost use Rattle.http.specs.StatusCode.{reason_phrase, code_digits};
 ghost use Rattle.tpf_base.specs.HttpText.{answer_head, status_line, field_line, request_text};
 ghost use Rattle.http_wire.specs.Fields.{pair_of, pairs_of};
 
 use crate::message::Field;
-use http::StatusCode;
 use tpf_base::OutOfMemory;
 
 /// How many bytes the parts have, or the most that can be counted.
@@ -72,13 +70,6 @@ fn append_line(out: &mut Vec<u8>, digits: &[u8], phrase: &[u8]) -> Result<(), Ou
     append_all(out, &[b"HTTP/1.1 ", digits, b" ", phrase, b"\r\n"])
 }
 
-/// The phrase of a status.
-fn phrase_of(status: StatusCode) -> &'static str
-    ensures { result.now ≡ unwrap_or (reason_phrase status) [] }
-{
-    status.canonical_reason().unwrap_or("")
-}
-
 /// Appends a field line.
 #[tactic(auto, using(crate::proofs::WriteLemmas::field_is))]
 fn append_field(field: &Field, out: &mut Vec<u8>) -> Result<(), OutOfMemory>
@@ -116,25 +107,20 @@ fn append_head(
     Ok(())
 }
 
-/// Appends the head of an answer (RFC 9112, sections 4 and 5): the status line with the phrase that
-/// is registered for the status, each field in order, and the empty line. Out of memory, nothing is
-/// appended.
+/// Appends the head of an answer (RFC 9112, sections 4 and 5): the status line with the digits of the status code
+/// and its reason phrase, each field in order, and the empty line. Out of memory, nothing is appended.
 pub fn write_head(
-    status: StatusCode,
+    code: &str,
+    phrase: &str,
     fields: &[Field],
     out: &mut Vec<u8>,
 ) -> Result<(), OutOfMemory>
-    ensures ok { OnOk result (out.new.items ≡ out.old.items
-        ++ answer_head (code_digits status) (unwrap_or (reason_phrase status) []) (pairs_of fields.now)) }
+    ensures ok { OnOk result
+        (out.new.items ≡ out.old.items ++ answer_head code.now phrase.now (pairs_of fields.now)) }
     ensures err { OnErr result (out.new.items ≡ out.old.items) }
 {
     let before = out.len();
-    let done = append_head(
-        status.as_str().as_bytes(),
-        phrase_of(status).as_bytes(),
-        fields,
-        out,
-    );
+    let done = append_head(code.as_bytes(), phrase.as_bytes(), fields, out);
     if done.is_err() {
         out.truncate(before);
     }

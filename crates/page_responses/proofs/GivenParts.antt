@@ -5,14 +5,14 @@ use Rattle.std.specs.List.{concat}
 use Rattle.rdf_terms.specs.declared.term.Quad.{Quad}
 use Rattle.rdf_terms.specs.Canon.{canonical_line}
 use Rattle.triple_table.specs.declared.ids.IdTriple.{IdTriple}
-use Rattle.triple_table.specs.Stored.{Stored, IsIdTriple, held_terms, triple_at}
+use Rattle.triple_table.specs.Stored.{Stored, held_terms, triple_at}
 use Rattle.page_responses.specs.declared.limits.TheConstants.{PART}
 use Rattle.page_responses.specs.declared.parts.Begun.TheVariants.{Nothing, Triple, Line}
 use Rattle.page_responses.specs.Given.{IsGiven}
 use Rattle.page_responses.specs.Lines.{some_quad, triple_line}
-use Rattle.page_responses.specs.PageRests.{IsBegun, begun_text}
+use Rattle.page_responses.specs.PageRests.{begun_text}
 use Rattle.page_responses.specs.Parts.{triple_marks}
-use Rattle.page_responses.proofs.PartLaws.{line_ends, line_given, line_goes_on, marks_end, marks_go_on, triple_are, within_on}
+use Rattle.page_responses.proofs.PartLaws.{line_ends, line_given, line_goes_on, marks_end, marks_go_on, triple_are}
 
 module _ (s : Stored) (quads : List Quad) (ids : IdTriple) (from : ℕ) (old new : List ℕ) where
   pub whole_line : from ≡ 0 → length (triple_line (triple_at (held_terms s) ids)) ≤ PART → new ≡ old ++ triple_line (triple_at (held_terms s) ids) → IsGiven (begun_text s quads (Triple ids from)) (begun_text s quads Nothing) old new

@@ -6,7 +6,7 @@ use Rattle.rdf_terms.specs.declared.term.Triple.{Triple}
 use Rattle.rdf_terms.specs.declared.term.Quad.{Quad}
 use Rattle.rdf_terms.specs.Canon.{canonical_term, canonical_graph, canonical_line}
 use Rattle.template_fill.specs.Bodies.{in_default_graph}
-use Rattle.page_responses.specs.Lines.{quad_lines, triple_line, triple_lines}
+use Rattle.page_responses.specs.Lines.{triple_line, triple_lines}
 
 parts_length : (s p o g : List ℕ) → length (s ++ 32 ∷ (p ++ 32 ∷ (o ++ g ++ 32 ∷ 46 ∷ 10 ∷ []))) ≡ length s + length p + length o + length g + 5
 parts_length s p o g =

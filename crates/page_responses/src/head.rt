@@ -1,5 +1,6 @@
 // The head of an answer.
-ghost use Rattle.std.specs.Prelude.{◌≡◌, ◌≤◌, ◌==◌, ◌++◌, codes, length, true, false, OnOk, IfOk};
+ghost use Rattle.std.specs.Prelude.{◌≡◌, ◌≤◌, ◌==◌, ◌++◌, [], ◌∷◌, codes, length, true, false, unwrap_or, OnOk, IfOk};
+ghost use Rattle.http.specs.StatusCode.{reason_phrase};
 ghost use Rattle.http_wire.specs.Fields.{pair_of, pairs_of};
 ghost use Rattle.list_laws.specs.Begins.{Begins};
 ghost use Rattle.tpf_base.specs.Decimals.{decimal_text};
@@ -10,6 +11,7 @@ ghost use Rattle.page_responses.specs.Statuses.{code, media_of};
 use crate::limits::LONGEST_PART;
 use crate::lines::append;
 use crate::status::Status;
+use http::StatusCode;
 use http_wire::{Field, write_head};
 use itoa::Buffer;
 use std::alloc::Global;
@@ -71,6 +73,17 @@ fn push_if(
     Ok(())
 }
 
+/// The fields that tell what a body is.
+fn body_fields(alloc: Global, media: MediaType, length: u128) -> Result<Vec<Field>, OutOfMemory>
+    ensures { IfOk result (λ fields. pairs_of fields.items
+        ≡ (codes "Content-Type", media_text (media_of media)) ∷ (codes "Content-Length", decimal_text length) ∷ []) }
+{
+    let mut fields = Vec::with_capacity(alloc, 4)?;
+    fields.push(field(alloc, "Content-Type", media_text(media))?)?;
+    fields.push(length_field(alloc, length)?)?;
+    Ok(fields)
+}
+
 /// The fields of an answer whose body has this length.
 #[tactic(auto, unfolding(template_fill::specs::HttpAnswer::answer_fields))]
 fn fields(
@@ -83,9 +96,7 @@ fn fields(
     ensures { IfOk result
         (λ fields. pairs_of fields.items ≡ answer_fields (code status) (media_of media) length closes) }
 {
-    let mut fields = Vec::with_capacity(alloc, 4)?;
-    fields.push(field(alloc, "Content-Type", media_text(media))?)?;
-    fields.push(length_field(alloc, length)?)?;
+    let mut fields = body_fields(alloc, media, length)?;
     push_if(
         &mut fields,
         alloc,
@@ -152,6 +163,13 @@ fn write_page_head(body_length: u128, out: &mut Vec<u8>) -> Result<(), OutOfMemo
     Ok(())
 }
 
+/// The phrase that is registered for a status (RFC 9110, section 15).
+fn phrase_of(status: StatusCode) -> &'static str
+    ensures { result.now ≡ unwrap_or (reason_phrase status) [] }
+{
+    status.canonical_reason().unwrap_or("")
+}
+
 /// Appends the head of an answer whose body has this length; `closes` tells that the connection ends with it.
 ///
 /// `OutOfMemory` comes only where memory runs out.
@@ -173,5 +191,6 @@ pub fn write_answer_head(
         return write_page_head(body_length, out);
     }
     let fields = fields(alloc, status, media, body_length, closes)?;
-    write_head(status.code(), fields.as_slice(), out)
+    let code = status.code();
+    write_head(code.as_str(), phrase_of(code), fields.as_slice(), out)
 }

@@ -199,7 +199,8 @@ fn fields_of(alloc: Global, case: &mut Case<'_>) -> Result<Vec<Field>, CaseFault
 /// What is written of a head behind a byte.
 fn head_text(alloc: Global, status: StatusCode, fields: &[Field]) -> Result<String, CaseFault> {
     let mut out = vec![in alloc; b'>']?;
-    match write_head(status, fields, &mut out) {
+    let phrase = status.canonical_reason().unwrap_or("");
+    match write_head(status.as_str(), phrase, fields, &mut out) {
         Ok(()) => bytes_text(alloc, out.as_slice()),
         Err(_) => Err(CaseFault::OutOfMemory),
     }

@@ -1,5 +1,6 @@
-use Rattle.std.proofs.Common.{◌≡◌, List, ℕ, ◌++◌, ◌∙◌, ap, subst}
+use Rattle.std.proofs.Common.{◌≡◌, List, ℕ, ◌++◌, ◌∙◌, ap, ap₂, subst}
 use Rattle.std.specs.Prelude.{OnOk}
+use Rattle.tpf_base.specs.HttpText.{answer_head}
 use Rattle.http_wire.specs.Fields.{pairs_of}
 use Rattle.page_responses.specs.Statuses.{media_of}
 use Rattle.page_responses.proofs.HeadLaws.{head_is, page_head_is}
@@ -14,5 +15,6 @@ returns-then-is_page-clause-ok c =
 pub returns-clause-ok : goal.returns-clause-ok
 returns-clause-ok c =
     subst (λ (x : List ℕ). OnOk c.write_head.result (c.write_head.new.out.items ≡ c.args.out.now.items ++ x))
-    (head_is c.args.status (media_of c.args.media) c.code.result c.args.body_length c.args.closes (pairs_of c.as_slice.result.now) c.code.ensures (ap pairs_of c.as_slice.ensures.value ∙ c.in_ok-fields.ensures))
+    (ap₂ (λ (d p : List ℕ). answer_head d p (pairs_of c.as_slice.result.now)) c.as_str.ensures c.phrase_of.ensures
+    ∙ head_is c.args.status (media_of c.args.media) c.code-code.result c.args.body_length c.args.closes (pairs_of c.as_slice.result.now) c.code-code.ensures (ap pairs_of c.as_slice.ensures.value ∙ c.in_ok-fields.ensures))
     c.write_head.ensures.ok
