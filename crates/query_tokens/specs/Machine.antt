@@ -71,6 +71,30 @@ taken (e ∷ es) k = if is_in e.0 k then Some e.1 else taken es k
 abbrev pub next : State → Class → Option State
 next s k = taken (edges s) k
 
+-- inside an IRI or a string
+abbrev pub is_enclosed : State → Bool
+is_enclosed IriItems = true
+is_enclosed IriEscape = true
+is_enclosed Quoted = true
+is_enclosed QuotedEscape = true
+is_enclosed Apostrophed = true
+is_enclosed ApostrophedEscape = true
+is_enclosed _ = false
+
+-- inside a word, and inside the name of a variable, a blank node's label or a language tag
+abbrev pub is_in_name : State → Bool
+is_in_name Word = true
+is_in_name Name = true
+is_in_name NameDots = true
+is_in_name Variable = true
+is_in_name LabelStart = true
+is_in_name Label = true
+is_in_name LabelDots = true
+is_in_name Tag = true
+is_in_name TagMinus = true
+is_in_name TagMore = true
+is_in_name _ = false
+
 -- inside a number, past its first character
 abbrev pub is_in_number : State → Bool
 is_in_number Sign = true

@@ -1,7 +1,7 @@
 // The machine that reads one token: where it stands inside the token, and where it goes with a
 // character. Its states are named by what they have read of the token.
 ghost use Rattle.std.specs.Prelude.{◌≡◌, None, if◌then◌else◌};
-ghost use Rattle.query_tokens.specs.Machine.{next, kind_at, is_in_number, is_in_local};
+ghost use Rattle.query_tokens.specs.Machine.{next, kind_at, is_enclosed, is_in_name, is_in_number, is_in_local};
 
 use crate::class::Class;
 use crate::kind::PieceKind;
@@ -185,6 +185,72 @@ fn step_in_local(state: State, class: Class) -> Option<State>
     }
 }
 
+// The states inside an IRI or a string.
+macro_rules! enclosed {
+    () => {
+        State::IriItems
+            | State::IriEscape
+            | State::Quoted
+            | State::QuotedEscape
+            | State::Apostrophed
+            | State::ApostrophedEscape
+    };
+}
+
+fn step_enclosed(state: State, class: Class) -> Option<State>
+    ensures { result ≡ (if is_enclosed state then next state class else None) }
+{
+    match state {
+        State::IriItems =>
+            edges!(class, is(Class::Greater) => Iri, is(Class::Backslash) => IriEscape, is_iri_char() => IriItems),
+        State::IriEscape => edges!(class, is_iri_char() => IriItems),
+        State::Quoted =>
+            edges!(class, is(Class::Quote) => Str, is(Class::Backslash) => QuotedEscape, is_quoted_char() => Quoted),
+        State::QuotedEscape => edges!(class, is_line_char() => Quoted),
+        State::Apostrophed =>
+            edges!(class, is(Class::Apostrophe) => Str, is(Class::Backslash) => ApostrophedEscape, is_apostrophed_char() => Apostrophed),
+        State::ApostrophedEscape => edges!(class, is_line_char() => Apostrophed),
+        _ => None,
+    }
+}
+
+// The states inside a word, and inside the name of a variable, a blank node's label or a language tag.
+macro_rules! name {
+    () => {
+        State::Word
+            | State::Name
+            | State::NameDots
+            | State::Variable
+            | State::LabelStart
+            | State::Label
+            | State::LabelDots
+            | State::Tag
+            | State::TagMinus
+            | State::TagMore
+    };
+}
+
+fn step_in_name(state: State, class: Class) -> Option<State>
+    ensures { result ≡ (if is_in_name state then next state class else None) }
+{
+    match state {
+        State::Word =>
+            edges!(class, is(Class::Colon) => Prefix, is(Class::Dot) => NameDots, is_letter() => Word, is_name_char() => Name),
+        State::Name =>
+            edges!(class, is_name_char() => Name, is(Class::Dot) => NameDots, is(Class::Colon) => Prefix),
+        State::NameDots => edges!(class, is_name_char() => Name, is(Class::Dot) => NameDots),
+        State::Variable => edges!(class, is_variable_char() => Variable),
+        State::LabelStart => edges!(class, is_name_start() => Label),
+        State::Label | State::LabelDots =>
+            edges!(class, is(Class::Dot) => LabelDots, is_name_char() => Label),
+        State::Tag => edges!(class, is(Class::Minus) => TagMinus, is_letter() => Tag),
+        State::TagMinus => edges!(class, is_letter_or_digit() => TagMore),
+        State::TagMore =>
+            edges!(class, is(Class::Minus) => TagMinus, is_letter_or_digit() => TagMore),
+        _ => None,
+    }
+}
+
 /// The state after one more character of a class, where there is one.
 pub fn step(state: State, class: Class) -> Option<State>
     ensures { result ≡ next state class }
@@ -193,12 +259,6 @@ pub fn step(state: State, class: Class) -> Option<State>
         State::Start => after_start(class),
         State::White => edges!(class, is_white() => White),
         State::Comment => edges!(class, is_line_char() => Comment),
-        State::IriItems =>
-            edges!(class, is(Class::Greater) => Iri, is(Class::Backslash) => IriEscape, is_iri_char() => IriItems),
-        State::Quoted =>
-            edges!(class, is(Class::Quote) => Str, is(Class::Backslash) => QuotedEscape, is_quoted_char() => Quoted),
-        State::Apostrophed =>
-            edges!(class, is(Class::Apostrophe) => Str, is(Class::Backslash) => ApostrophedEscape, is_apostrophed_char() => Apostrophed),
         State::Caret => edges!(class, is(Class::Caret) => Carets),
         State::VariableMark => edges!(class, is_name_start() => Variable),
         State::Underscore => edges!(class, is(Class::Colon) => LabelStart),
@@ -206,22 +266,8 @@ pub fn step(state: State, class: Class) -> Option<State>
         State::OpenBracket =>
             edges!(class, is(Class::CloseBracket) => Anonymous, is_white() => OpenBracket),
         State::At => edges!(class, is_letter() => Tag),
-        State::Word =>
-            edges!(class, is(Class::Colon) => Prefix, is(Class::Dot) => NameDots, is_letter() => Word, is_name_char() => Name),
-        State::Name =>
-            edges!(class, is_name_char() => Name, is(Class::Dot) => NameDots, is(Class::Colon) => Prefix),
-        State::IriEscape => edges!(class, is_iri_char() => IriItems),
-        State::QuotedEscape => edges!(class, is_line_char() => Quoted),
-        State::ApostrophedEscape => edges!(class, is_line_char() => Apostrophed),
-        State::Variable => edges!(class, is_variable_char() => Variable),
-        State::LabelStart => edges!(class, is_name_start() => Label),
-        State::Tag => edges!(class, is(Class::Minus) => TagMinus, is_letter() => Tag),
-        State::NameDots => edges!(class, is_name_char() => Name, is(Class::Dot) => NameDots),
-        State::Label | State::LabelDots =>
-            edges!(class, is(Class::Dot) => LabelDots, is_name_char() => Label),
-        State::TagMinus => edges!(class, is_letter_or_digit() => TagMore),
-        State::TagMore =>
-            edges!(class, is(Class::Minus) => TagMinus, is_letter_or_digit() => TagMore),
+        enclosed!() => step_enclosed(state, class),
+        name!() => step_in_name(state, class),
         local!() => step_in_local(state, class),
         _ => step_in_number(state, class),
     }

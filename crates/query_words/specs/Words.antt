@@ -1,5 +1,5 @@
 -- The tokens of a query, each with what it says.
-use Rattle.std.specs.Prelude.{ℕ, List, map, take, drop, codes, if◌then◌else◌}
+use Rattle.std.specs.Prelude.{ℕ, Bool, true, false, List, map, take, drop, codes, if◌then◌else◌}
 use Rattle.std.specs.Str.{bytes_eq, encode_utf8_all}
 use Rattle.query_tokens.specs.declared.kind.PieceKind.{PieceKind}
 use Rattle.query_tokens.specs.declared.kind.PieceKind.TheVariants as pieces
@@ -14,6 +14,23 @@ use Rattle.query_words.specs.Texts.{same_word, resolved_text, prefix_text, local
 -- PREFIX, SELECT, WHERE, true, false, DISTINCT, OPTIONAL and UNION in any case, and `a` in lower case alone
 unfoldable pub word_value : List ℕ → Value
 word_value cs = if same_word (codes "prefix") cs then values.PrefixWord else (if same_word (codes "select") cs then values.SelectWord else (if same_word (codes "where") cs then values.WhereWord else (if same_word (codes "true") cs then values.True else (if same_word (codes "false") cs then values.False else (if bytes_eq cs (codes "a") then values.TypeWord else (if same_word (codes "distinct") cs then values.DistinctWord else (if same_word (codes "optional") cs then values.OptionalWord else (if same_word (codes "union") cs then values.UnionWord else values.OtherWord))))))))
+
+abbrev pub is_number : PieceKind → Bool
+is_number pieces.Integer = true
+is_number pieces.Decimal = true
+is_number pieces.Double = true
+is_number _ = false
+
+-- it says more than which word or mark it is
+abbrev pub has_text : PieceKind → Bool
+has_text pieces.Iri = true
+has_text pieces.Prefix = true
+has_text pieces.Prefixed = true
+has_text pieces.Variable = true
+has_text pieces.Blank = true
+has_text pieces.Str = true
+has_text pieces.Tag = true
+has_text kind = is_number kind
 
 -- what a token of a kind says, by its characters
 unfoldable pub value_of : PieceKind → List ℕ → Value

@@ -1,8 +1,8 @@
 // The tokens of a query, each with what it says.
-ghost use Rattle.std.specs.Prelude.{◌≡◌, ◌≤◌, length, IfOk, All};
+ghost use Rattle.std.specs.Prelude.{◌≡◌, ◌≤◌, length, if◌then◌else◌, IfOk, All};
 ghost use Rattle.query_tokens.specs.declared.piece.TheConstants.{LONGEST_QUERY};
 ghost use Rattle.query_tokens.specs.Pieces.{Fits};
-ghost use Rattle.query_words.specs.Words.{word_value, value_of, word_of, words_of, kind_of, kinds_of};
+ghost use Rattle.query_words.specs.Words.{word_value, is_number, has_text, value_of, word_of, words_of, kind_of, kinds_of};
 
 use crate::text::{
     is_a, local_text, prefix_text, resolved_text, same_word, text_after_first, text_of,
@@ -103,26 +103,25 @@ fn word_value(chars: &[char]) -> Value
 }
 
 #[tactic(auto, unfolding(crate::specs::Words::value_of))]
-fn value_of(alloc: Global, kind: PieceKind, chars: &[char]) -> Result<Value, OutOfMemory>
-    requires { length chars.now ≤ LONGEST_QUERY }
-    ensures { IfOk result (λ v. v ≡ value_of kind chars.now) }
+fn number_value(alloc: Global, kind: PieceKind, chars: &[char]) -> Result<Value, OutOfMemory>
+    ensures { IfOk result (λ v. v ≡ (if is_number kind then value_of kind chars.now else Value.OtherWord)) }
 {
+    let text = text_of(alloc, chars)?;
     Ok(match kind {
-        PieceKind::White | PieceKind::Comment => Value::OtherWord,
-        PieceKind::Iri => Value::Iri(resolved_text(alloc, chars)?),
-        PieceKind::Prefix => Value::Prefix(prefix_text(alloc, chars)?),
-        PieceKind::Prefixed => Value::Prefixed(
-            prefix_text(alloc, chars)?,
-            local_text(alloc, chars)?,
-        ),
-        PieceKind::Variable => Value::Variable(text_after_first(alloc, chars)?),
-        PieceKind::Blank => Value::Label(text_of(alloc, chars)?),
+        PieceKind::Integer => Value::Integer(text),
+        PieceKind::Decimal => Value::Decimal(text),
+        PieceKind::Double => Value::Double(text),
+        _ => Value::OtherWord,
+    })
+}
+
+/// Which word or mark it is.
+#[tactic(auto, unfolding(crate::specs::Words::value_of))]
+fn mark_value(kind: PieceKind, chars: &[char]) -> Value
+    ensures { result ≡ (if has_text kind then Value.OtherWord else value_of kind chars.now) }
+{
+    match kind {
         PieceKind::Anonymous => Value::Anonymous,
-        PieceKind::Str => Value::Str(resolved_text(alloc, chars)?),
-        PieceKind::Tag => Value::Tag(text_after_first(alloc, chars)?),
-        PieceKind::Integer => Value::Integer(text_of(alloc, chars)?),
-        PieceKind::Decimal => Value::Decimal(text_of(alloc, chars)?),
-        PieceKind::Double => Value::Double(text_of(alloc, chars)?),
         PieceKind::Word => word_value(chars),
         PieceKind::OpenBrace => Value::OpenBrace,
         PieceKind::CloseBrace => Value::CloseBrace,
@@ -131,6 +130,30 @@ fn value_of(alloc: Global, kind: PieceKind, chars: &[char]) -> Result<Value, Out
         PieceKind::Comma => Value::Comma,
         PieceKind::Star => Value::Star,
         PieceKind::Carets => Value::Carets,
+        _ => Value::OtherWord,
+    }
+}
+
+#[tactic(auto, unfolding(crate::specs::Words::value_of))]
+fn value_of(alloc: Global, kind: PieceKind, chars: &[char]) -> Result<Value, OutOfMemory>
+    requires { length chars.now ≤ LONGEST_QUERY }
+    ensures { IfOk result (λ v. v ≡ value_of kind chars.now) }
+{
+    Ok(match kind {
+        PieceKind::Iri => Value::Iri(resolved_text(alloc, chars)?),
+        PieceKind::Prefix => Value::Prefix(prefix_text(alloc, chars)?),
+        PieceKind::Prefixed => Value::Prefixed(
+            prefix_text(alloc, chars)?,
+            local_text(alloc, chars)?,
+        ),
+        PieceKind::Variable => Value::Variable(text_after_first(alloc, chars)?),
+        PieceKind::Blank => Value::Label(text_of(alloc, chars)?),
+        PieceKind::Str => Value::Str(resolved_text(alloc, chars)?),
+        PieceKind::Tag => Value::Tag(text_after_first(alloc, chars)?),
+        PieceKind::Integer | PieceKind::Decimal | PieceKind::Double => number_value(
+            alloc, kind, chars,
+        )?,
+        _ => mark_value(kind, chars),
     })
 }
 

@@ -1,12 +1,15 @@
 -- Rows that stand once, by what stands before them.
-use Rattle.std.proofs.Common.{ℕ, suc, ◌≡◌, ◌<◌, ◌+◌, Bool, true, false, not, cond, ◌&&◌, ◌||◌, List, [], ◌∷◌, ◌++◌, length, get_or, take, drop, refl, ap, sym, ◌∙◌, append-nil, append_assoc, add-one}
+use Rattle.std.proofs.Common.{Bor, ℕ, suc, ◌≡◌, ◌<◌, ◌+◌, Bool, true, false, not, cond, ◌&&◌, ◌||◌, List, [], ◌∷◌, ◌++◌, length, get_or, take, drop, Option, refl, ap, sym, ◌∙◌, append-nil, append_assoc, add-one}
 use Rattle.std.proofs.Math.Seq.{drop-cons, take-suc}
+use Rattle.std.specs.Prelude.{Vec}
+use Rattle.std.specs.BTreeSet.{BTreeSet}
 use Rattle.std.specs.List.{AllByRecursion, filter, list_any}
 use Rattle.list_laws.proofs.Each.{all_so, all_filter}
 use Rattle.list_laws.proofs.Lists.{any_snoc}
+use Rattle.rdf_terms.specs.declared.term.Term.{Term}
 use Rattle.bgp_core.specs.Solutions.{Places}
 use Rattle.row_algebra.specs.Algebra.{row_eq, once, BindsOnly}
-use Rattle.row_algebra.specs.Finding.{news, same_key, flagged, row_if}
+use Rattle.row_algebra.specs.Finding.{news, same_key, flagged, row_if, HasKeys}
 use Rattle.row_algebra.proofs.Keys.{key_decides}
 
 -- ---- filters
@@ -88,17 +91,19 @@ news_step same rows i r all flags flags' b below at is add before =
     let front : take (suc i) rows ≡ take i rows ++ r ∷ [] = take-suc rows i r below ∙ ap (λ (x : Places). take i rows ++ x ∷ []) (sym at) in
     rw (add-one, front, add, is, append_assoc) (before ∙ ap (λ (l : List Places). flags ++ news same (take i rows) l) rest)
 
-pub seen_step : (p : Places → Bool) (rows : List Places) (i : ℕ) (r : Places) (new old : Bool) → i < length rows → r ≡ get_or rows i r → old ≡ list_any p (take i rows) → new ≡ (p r || old) → new ≡ list_any p (take (i + 1) rows)
-seen_step p rows i r new old below at before e =
+-- a set that has the keys of the rows before the next, and its key
+pub keys_step : {Z : Type 0} (names : List ℕ) (rows : List Places) (i : ℕ) (r : Places) (seen : BTreeSet (Vec (Option (Bor Term)) Z)) → i < length rows → r ≡ get_or rows i r → HasKeys names (take i rows ++ r ∷ []) seen → HasKeys names (take (i + 1) rows) seen
+keys_step {Z} names rows i r seen below at h =
     let front : take (suc i) rows ≡ take i rows ++ r ∷ [] = take-suc rows i r below ∙ ap (λ (x : Places). take i rows ++ x ∷ []) (sym at) in
-    e ∙ ap (λ b. p r || b) before ∙ sym (any_snoc p (take i rows) r) ∙ ap (λ (l : List Places). list_any p l) (sym (rw add-one front))
+    rw (add-one, front) h
 
 set_step : (tie old : Bool) → cond tie true old ≡ (tie || old)
 set_step true old = refl
 set_step false old = refl
 
-pub set_more : (new tie old same : Bool) → new ≡ cond tie true old → tie ≡ same → new ≡ (same || old)
-set_more new tie old same e is = e ∙ set_step tie old ∙ ap (λ (b : Bool). b || old) is
+-- one key more
+pub seen_more : (p : Places → Bool) (before : List Places) (r : Places) (new tie old : Bool) → new ≡ cond tie true old → tie ≡ p r → old ≡ list_any p before → new ≡ list_any p (before ++ r ∷ [])
+seen_more p before r new tie old e is h = e ∙ set_step tie old ∙ ap (λ (b : Bool). b || old) is ∙ ap (λ b. p r || b) h ∙ sym (any_snoc p before r)
 
 -- behind the last row no flag is read
 flagged_none : (flags : List Bool) → flagged flags [] ≡ []

@@ -1,14 +1,32 @@
 // Rows that stand once.
-ghost use Rattle.std.specs.Prelude.{◌≡◌, ℕ, ◌++◌, [], IfOk, OnOk};
-ghost use Rattle.std.specs.List.{AllByRecursion};
+ghost use Rattle.std.specs.Prelude.{◌≡◌, ℕ, ◌++◌, List, [], ◌∷◌, not, IfOk, OnOk};
+ghost use Rattle.std.specs.List.{AllByRecursion, list_any};
+ghost use Rattle.bgp_core.specs.Solutions.{Places};
 ghost use Rattle.row_algebra.specs.Algebra.{HaveWidth, once, BindsOnly};
-ghost use Rattle.row_algebra.specs.Finding.{news, same_key, flagged, row_if};
+ghost use Rattle.row_algebra.specs.Finding.{news, same_key, flagged, row_if, HasKeys};
 
-use crate::key::key_of;
+use crate::key::{Key, key_of};
 use bgp_core::Row;
 use std::alloc::Global;
 use std::collections::BTreeSet;
 use text_base::OutOfMemory;
+
+/// Adds the terms of a row for some names to those that were seen, and answers whether they were not among them.
+fn add_seen<'a>(
+    alloc: Global,
+    names: &[u32],
+    row: &'a Row,
+    seen: &mut BTreeSet<Key<'a>>,
+) -> Result<bool, OutOfMemory>
+    ensures new { IfOk result (λ new. (before : List Places) → HasKeys names.now before seen.old
+        → new ≡ not (list_any (λ s. same_key names.now s row.entry.now) before)) }
+    ensures seen { OnOk result ((before : List Places) → HasKeys names.now before seen.old
+        → HasKeys names.now (before ++ row.entry.now ∷ []) seen.new) }
+{
+    let key = key_of(alloc, names, row)?;
+    let new = seen.insert(key)?;
+    Ok(new)
+}
 
 /// For each row whether it is the first with its terms for some names.
 fn are_new(alloc: Global, names: &[u32], rows: &[Row]) -> Result<Vec<bool>, OutOfMemory>
@@ -17,8 +35,8 @@ fn are_new(alloc: Global, names: &[u32], rows: &[Row]) -> Result<Vec<bool>, OutO
     let mut seen = BTreeSet::new(alloc);
     let mut flags = Vec::with_capacity(alloc, rows.len())?;
     for row in rows {
-        let key = key_of(alloc, names, row)?;
-        flags.push(seen.insert(key)?)?;
+        let new = add_seen(alloc, names, row, &mut seen)?;
+        flags.push(new)?;
     }
     Ok(flags)
 }

@@ -1,5 +1,6 @@
 -- Terms in their order, each once, and the ranks of places.
-use Rattle.std.proofs.Common.{ℕ, ◌≡◌, ◌≢◌, ◌+◌, ◌-◌, ◌<◌, ◌≤◌, Bool, true, false, eqb, ltb, List, [], ◌∷◌, ◌++◌, refl, sym, ap, subst, ◌∙◌, zero, suc, length, get_or, set, take, map, arith, length-set, All}
+use Rattle.std.proofs.Common.{ℕ, ◌≡◌, ◌≢◌, ◌+◌, ◌-◌, ◌<◌, ◌≤◌, Bool, true, false, eqb, ltb, Result, Ok, Err, List, [], ◌∷◌, ◌++◌, refl, sym, ap, subst, ◌∙◌, zero, suc, length, get_or, set, take, map, arith, length-set, All}
+use Rattle.std.specs.Prelude.{IfOk}
 use Rattle.std.specs.Borrow.{Bor}
 use Rattle.std.specs.List.{Contains, filter_map}
 use Rattle.std.specs.List.Sorted.{IsPermutation, IsSortedBy, IsStrictlySortedBy}
@@ -271,10 +272,9 @@ module _ (authority : List ℕ) (triples : List Triple) (terms ranked : List Ter
   pub all_ranks : All (HasRanks ranks) places
   all_ranks = All-weaker (IsPlaced terms) (HasRanks ranks) (λ p h. let a = h.subject in let b = h.predicate in let c = h.object in record { subject = omega (arith, len, a); predicate = omega (arith, len, b); object = omega (arith, len, c) }) places g.each
 
-  pub small_ranks : length ranked < 4294967296 → All (λ rank. rank < 4294967296) ranks
-  small_ranks small = λ k d l.
-      let less = (r.each k (in_map k (omega (arith, len, l)))).within in
-      subst (λ n. n < 4294967296) (get_or_default ranks k 0 d l) (omega (arith, less, small))
+  pub ranks_within : All (λ rank. rank < length ranked) ranks
+  ranks_within = λ k d l.
+      subst (λ n. n < length ranked) (get_or_default ranks k 0 d l) (r.each k (in_map k (omega (arith, len, l)))).within
 
   terms_served : (ts : List Triple) → terms_of (map (skolem_triple authority) ts) ≡ map (skolem authority) (terms_of ts)
   terms_served [] = refl
@@ -297,6 +297,10 @@ module _ (authority : List ℕ) (triples : List Triple) (terms ranked : List Ter
 
 -- ---- from the parts of a call
 
+pub if_ok_both : {A E : Type 0} (r : Result A E) (P Q S : A → Type 0) → IfOk r P → IfOk r Q → ((x : A) → P x → Q x → S x) → IfOk r S
+if_ok_both (Ok x) P Q S p q f = f x p q
+if_ok_both (Err e) P Q S p q f = tt
+
 pub served_ranked : (authority : List ℕ) (terms one two served four : List (Bor Term)) (genids three ranked : List Term) (ranks : List ℕ) → genids ≡ filter_map (genid_of authority) (borrowed_terms one) → one ≡ terms → two ≡ terms → three ≡ genids →
     ((a : List ℕ) → three ≡ filter_map (genid_of a) (borrowed_terms two) → borrowed_terms served ≡ map (skolem a) (borrowed_terms two)) → four ≡ served → AreRanked (borrowed_terms four) ranked ranks →
     AreRanked (map (skolem authority) (borrowed_terms terms)) ranked ranks
@@ -304,7 +308,7 @@ served_ranked authority terms one two served four genids three ranked ranks g o 
     subst (λ (xs : List Term). AreRanked xs ranked ranks)
     (ap borrowed_terms f ∙ s authority (h ∙ g ∙ ap (λ (xs : List (Bor Term)). filter_map (genid_of authority) (borrowed_terms xs)) (o ∙ sym t)) ∙ ap (λ (xs : List (Bor Term)). map (skolem authority) (borrowed_terms xs)) t) r
 
-pub ids_moved : (P : List Term → List IdTriple → Type 0) (terms others : List Term) (ids : List IdTriple) (ranks same : List ℕ) (places those : List Places) → terms ≡ others → ids ≡ map (ids_of same) those → same ≡ ranks → those ≡ places →
+pub ids_moved : (P : List Term → List IdTriple → Type 0) (terms others : List Term) (ids : List IdTriple) (ranks : List ℕ) (places those : List Places) → terms ≡ others → ids ≡ map (ids_of ranks) those → those ≡ places →
     P others (map (ids_of ranks) places) → P terms ids
-ids_moved P terms others ids ranks same places those e i r p h =
-    subst (λ (t : List Term). P t ids) (sym e) (subst (P others) (sym (i ∙ ap (λ (rs : List ℕ). map (ids_of rs) those) r ∙ ap (map (ids_of ranks)) p)) h)
+ids_moved P terms others ids ranks places those e i p h =
+    subst (λ (t : List Term). P t ids) (sym e) (subst (P others) (sym (i ∙ ap (map (ids_of ranks)) p)) h)

@@ -12,15 +12,15 @@ ghost use Rattle.tpf_base.specs.Addresses.{IsAuthority};
 ghost use Rattle.triple_table.specs.Chosen.{chosen};
 ghost use Rattle.triple_table.specs.Genid.{skolem_triple};
 ghost use Rattle.triple_table.specs.Lengths.{kept_length};
-ghost use Rattle.triple_table.specs.Ranking.{borrowed_terms, HasMoreTerms, HoldsMore, SameMembers};
+ghost use Rattle.triple_table.specs.Ranking.{borrowed_terms, ids_of, HasMoreTerms, HasRanks, HoldsMore, SameMembers};
 ghost use Rattle.triple_table.specs.Rows.{key, row_of};
 ghost use Rattle.triple_table.specs.Served.{Clashes, IsLeastClash, IsServed};
 ghost use Rattle.triple_table.specs.Stored.{IsRanking, IsIdTriple, PassesMost, triple_at, triples_in, held_terms};
 
 use crate::data_set::refuse_clash;
-use crate::gather::{gather, genid_terms, served_terms};
+use crate::gather::{Places, gather, genid_terms, served_terms};
 use crate::ids::{IdTriple, Order};
-use crate::ranking::{id_triples, rank_terms};
+use crate::ranking::{Ranked, id_triples, rank_terms};
 use crate::rows::{Rows, key};
 use crate::term_list::{TermList, kept_length};
 use crate::{BuildFault, Choice, Table};
@@ -57,6 +57,29 @@ fn copies_of(alloc: Global, terms: &[&Term]) -> Result<TermList, OutOfMemory>
     Ok(TermList::from_vecs(copies, lengths))
 }
 
+/// Copies of ranked terms, where they are not too many, and triples by the ranks of theirs.
+fn by_ranks(
+    alloc: Global,
+    triples: &[Places],
+    ranked: &Ranked<'_>,
+    most: u32,
+) -> Result<(TermList, Vec<IdTriple>), BuildFault>
+    requires places { All (HasRanks ranked.now.ranks.items) triples.now }
+    requires ranks { All (λ rank. rank < length (borrowed_terms ranked.now.terms.items)) ranked.now.ranks.items }
+    ensures terms { IfOk result (λ r. r.0 ≡ borrowed_terms ranked.now.terms.items) }
+    ensures few { IfOk result (λ r. length r.0 ≤ most) }
+    ensures ids { IfOk result (λ r. r.1.items ≡ map (ids_of ranked.now.ranks.items) triples.now) }
+    ensures too_many { IsErrOf result BuildFault.TooMany → most < length (borrowed_terms ranked.now.terms.items) }
+    ensures never { (label : List ℕ) → ¬ (IsErrOf result (BuildFault.GenidClash label)) }
+{
+    if ranked.terms.len() > most as usize {
+        return Err(BuildFault::TooMany);
+    }
+    let ids = id_triples(alloc, triples, ranked.ranks.as_slice())?;
+    let terms = copies_of(alloc, ranked.terms.as_slice())?;
+    Ok((terms, ids))
+}
+
 /// The served terms in their order, each once, and the chosen triples as they are served, with repeats,
 /// by their ids.
 fn ranked_triples(
@@ -83,12 +106,7 @@ fn ranked_triples(
     let ranking = rank_terms(alloc, served.as_slice());
     drop(served);
     let ranked = ranking?;
-    if ranked.terms.len() > most as usize {
-        return Err(BuildFault::TooMany);
-    }
-    let ids = id_triples(alloc, gathered.triples.as_slice(), ranked.ranks.as_slice())?;
-    let terms = copies_of(alloc, ranked.terms.as_slice())?;
-    Ok((terms, ids))
+    by_ranks(alloc, gathered.triples.as_slice(), &ranked, most)
 }
 
 /// The triples by ids, each once, in their order.
