@@ -3,7 +3,7 @@ ghost use Rattle.std.specs.Prelude.{◌≡◌};
 ghost use Rattle.command_endings.specs.Statuses.{code_of};
 
 /// How a run ends, by its exit status.
-#[derive(Clone, Copy, PartialEq, Eq)]
+#[derive(Clone, Copy)]
 pub enum Status {
     /// 0: the command was done to its end.
     Done,

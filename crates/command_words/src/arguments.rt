@@ -19,7 +19,7 @@ enum WordsFault {
 }
 
 /// What an argument is: one by its place, `--name value` or `--name`.
-#[derive(Clone, Copy, PartialEq, Eq)]
+#[derive(Clone, Copy)]
 enum Role {
     Positional,
     Option,

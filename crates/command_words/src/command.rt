@@ -4,7 +4,7 @@ use tpf_base::Text;
 use triple_table::Choice;
 
 /// The options with which a client asks.
-#[derive(Clone, Copy, PartialEq, Eq)]
+#[derive(Clone, Copy)]
 pub struct ClientWords {
     /// `--window`: how many rows are extended at once, 1 to `MOST_WINDOW` (10000); `USUAL_WINDOW` (16)
     /// where it is not given.

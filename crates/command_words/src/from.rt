@@ -264,7 +264,7 @@ static SERVE_OPTIONS: [&str; 5] = ["base", "page", "graph", "stop-after", "reloa
 static MAKE_OPTIONS: [&str; 1] = ["run"];
 
 /// A command of the program.
-#[derive(Clone, Copy, PartialEq, Eq)]
+#[derive(Clone, Copy)]
 enum Name {
     Local,
     Query,

@@ -14,7 +14,7 @@ use std::alloc::Global;
 use tpf_base::{FileFault, Shelf, read_file};
 
 /// What the text of a query may hold.
-#[derive(Clone, Copy, PartialEq, Eq)]
+#[derive(Clone, Copy)]
 pub enum Grammar {
     /// One basic graph pattern alone (SPARQL 1.1 Query, 5.1).
     Patterns,

@@ -28,7 +28,7 @@ pub enum Opener {
 
 /// The groups of a part, to which UNION may add one: none; one that is empty, of which no step is written
 /// yet; or groups whose steps are written.
-#[derive(Clone, Copy, PartialEq, Eq)]
+#[derive(Clone, Copy)]
 pub enum Pending {
     Nothing,
     Empty,
@@ -54,7 +54,7 @@ fn pending_by(is_empty: bool) -> Pending
 
 /// A group that is open around another: whether nothing stood in it before, and what the brace behind that
 /// opened.
-#[derive(Clone, Copy, PartialEq, Eq)]
+#[derive(Clone, Copy)]
 pub struct Frame {
     pub is_empty: bool,
     pub opener: Opener,

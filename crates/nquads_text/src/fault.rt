@@ -3,7 +3,7 @@ use std::alloc::AllocError;
 
 /// The faults of a line, by the grammar (RDF 1.1 N-Quads 4) and by the limits of the reader. The first of them in this
 /// order is told.
-#[derive(Clone, Copy, Debug, PartialEq, Eq)]
+#[derive(Clone, Copy, Debug)]
 pub enum Why {
     /// The line's bytes are not UTF-8.
     Utf8,

@@ -26,7 +26,7 @@ pub const LONGEST_TARGET: usize = 65536;
 
 /// The most rows for which one request asks: from 1, which is row by row, to `MOST_ROWS` (64).
 /// Contracts see it as that number.
-#[derive(Clone, Copy, PartialEq, Eq)]
+#[derive(Clone, Copy)]
 pub struct BlockSize {
     rows: usize,
 }

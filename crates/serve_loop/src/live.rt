@@ -18,7 +18,7 @@ pub const SPREAD: u64 = 15;
 
 /// A part of the live connections, by the numbers of their links: those from `first` to `last`, and those from
 /// `newest` on.
-#[derive(Clone, Copy, PartialEq, Eq)]
+#[derive(Clone, Copy)]
 pub struct Part {
     /// The number of the first link of a row of links.
     pub first: u64,
@@ -60,7 +60,7 @@ pub enum Stepped {
 }
 
 /// What a turn did.
-#[derive(Clone, Copy, PartialEq, Eq)]
+#[derive(Clone, Copy)]
 pub struct Turned {
     /// Whether a byte moved on a link that stays, or a link was accepted.
     pub moved: bool,

@@ -6,7 +6,7 @@ use std::cmp::Ordering;
 
 /// A triple by the ids of its terms, which are their places, from 0, in the sorted term dictionary; so it
 /// is ordered as its triple is.
-#[derive(Clone, Copy, PartialEq, Eq, PartialOrd, Ord)]
+#[derive(Clone, Copy, PartialEq, Eq)]
 pub struct IdTriple {
     pub subject: u32,
     pub predicate: u32,
@@ -36,7 +36,7 @@ pub enum Order {
 /// The rows of an order from a place up to, and without, another: the triples that match a pattern,
 /// as `Table::range` gives them. Places count from 0, over all triples of that table in this order;
 /// the range is empty where `from` and `to` are the same.
-#[derive(Clone, Copy, PartialEq, Eq)]
+#[derive(Clone, Copy)]
 pub struct Range {
     pub order: Order,
     pub from: usize,
