@@ -4,7 +4,7 @@ use Rattle.std.proofs.KnownBytes.{Appends-nil}
 use Rattle.tpf_base.specs.Wrote.{SinkState}
 use Rattle.tpf_base.specs.declared.fault.Fault.{Fault}
 use Rattle.data_files.specs.declared.fault.DataFault.{DataFault}
-use Rattle.command_endings.specs.declared.fault.AnswerFault.{AnswerFault}
+use Rattle.answer_faults.specs.declared.fault.AnswerFault.{AnswerFault}
 use Rattle.command_endings.specs.Endings.{data_status, data_line, made_status, made_line, counted_status, counted_line}
 use Rattle.command_endings.specs.Lines.{SaysLine}
 

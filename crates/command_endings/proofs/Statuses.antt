@@ -6,8 +6,8 @@ use Rattle.data_files.specs.declared.fault.DataFault.{DataFault}
 use Rattle.data_files.specs.declared.fault.DataFault.TheVariants as data_faults
 use Rattle.data_files.specs.declared.fault.QueryFileFault.{QueryFileFault}
 use Rattle.data_files.specs.declared.fault.QueryFileFault.TheVariants as query_faults
-use Rattle.command_endings.specs.declared.fault.AnswerFault.{AnswerFault}
-use Rattle.command_endings.specs.declared.fault.AnswerFault.TheVariants as answers
+use Rattle.answer_faults.specs.declared.fault.AnswerFault.{AnswerFault}
+use Rattle.answer_faults.specs.declared.fault.AnswerFault.TheVariants as answers
 use Rattle.command_endings.specs.Endings.{data_status, query_status, client_status, fault_status}
 
 known_data : (fault : DataFault) → (3 ≤ data_status fault) × (data_status fault ≤ 11)

@@ -12,8 +12,8 @@ use Rattle.data_files.specs.declared.fault.DataFault.{DataFault}
 use Rattle.data_files.specs.declared.fault.DataFault.TheVariants as data_faults
 use Rattle.data_files.specs.declared.fault.QueryFileFault.{QueryFileFault}
 use Rattle.data_files.specs.declared.fault.QueryFileFault.TheVariants as query_faults
-use Rattle.command_endings.specs.declared.fault.AnswerFault.{AnswerFault}
-use Rattle.command_endings.specs.declared.fault.AnswerFault.TheVariants as answers
+use Rattle.answer_faults.specs.declared.fault.AnswerFault.{AnswerFault}
+use Rattle.answer_faults.specs.declared.fault.AnswerFault.TheVariants as answers
 use Rattle.serve_command.specs.declared.fault.ServiceFault.{ServiceFault}
 use Rattle.serve_command.specs.declared.fault.ServiceFault.TheVariants as services
 use Rattle.command_endings.specs.Names.{why_text, group_why_text, page_text}

@@ -3,7 +3,7 @@ use Rattle.std.specs.Prelude.{ℕ, ◌≡◌, ◌⊎◌, ◌++◌, List, Option,
 use Rattle.std.specs.Io.KnownBytes.{Appends}
 use Rattle.tpf_base.specs.Causes.{Rose}
 use Rattle.tpf_base.specs.Wrote.{SinkState, AppendsPrefix}
-use Rattle.command_endings.specs.declared.fault.Counts.{Counts}
+use Rattle.answer_faults.specs.declared.fault.Counts.{Counts}
 
 -- the line, or a part of its front where the standard error failed, and status 8 where memory ran out over it
 abbrev pub SaysLine : ℕ → ℕ → List ℕ → SinkState → SinkState → Type 0

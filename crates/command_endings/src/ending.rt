@@ -1,6 +1,6 @@
 // How a run ends.
 
-use crate::fault::AnswerFault;
+use answer_faults::AnswerFault;
 use serve_command::ServiceFault;
 use tpf_base::Fault;
 use tpf_client::Report;

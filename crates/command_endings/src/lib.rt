@@ -10,14 +10,12 @@
 #![tactic(auto)]
 
 mod ending;
-mod fault;
 mod lines;
 mod names;
 mod saying;
 mod status;
 
 pub use ending::Ending;
-pub use fault::{AnswerFault, Counts};
 pub use lines::write_sizes;
 pub use saying::say;
 pub use status::Status;

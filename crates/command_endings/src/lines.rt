@@ -6,8 +6,8 @@ ghost use Rattle.data_files.specs.Kept.{KeepsSink};
 ghost use Rattle.command_endings.specs.Statuses.{code_of};
 ghost use Rattle.command_endings.specs.Lines.{SaysLine, version_text, counts_text, versions_text, sizes_text};
 
-use crate::fault::Counts;
 use crate::status::Status;
+use answer_faults::Counts;
 use itoa::Buffer;
 use std::alloc::Global;
 use tpf_base::{Fault, OutOfMemory, Sink, write_all};

@@ -6,12 +6,12 @@ ghost use Rattle.command_endings.specs.Endings.{Says, data_status, data_line, qu
 ghost use Rattle.command_endings.specs.EndingViews.{ending_view};
 
 use crate::ending::Ending;
-use crate::fault::AnswerFault;
 use crate::lines::{
     write_counts, write_fault, write_line, write_named, write_number, write_versions,
 };
 use crate::names::{group_why_text, page_text, why_text};
 use crate::status::Status;
+use answer_faults::AnswerFault;
 use data_files::{DataFault, QueryFileFault};
 use http_wire::ReplyFault;
 use serve_command::ServiceFault;

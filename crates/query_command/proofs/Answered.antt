@@ -1,8 +1,8 @@
 -- What came of a call over the wire decides what came of the query.
 use Rattle.std.proofs.Common.{◌≡◌, Result, Ok, Err, refl, sym, subst}
 use Rattle.tpf_client.specs.declared.fault.ClientFault.{ClientFault}
-use Rattle.command_endings.specs.declared.fault.AnswerFault.{AnswerFault}
-use Rattle.command_endings.specs.declared.fault.AnswerFault.TheVariants as faults
+use Rattle.answer_faults.specs.declared.fault.AnswerFault.{AnswerFault}
+use Rattle.answer_faults.specs.declared.fault.AnswerFault.TheVariants as faults
 
 -- what holds of either outcome of the call, as of the query, holds of what came of the query
 pub by_call : {A : Type 0} (P : Result A AnswerFault → Type 0) (came : Result A ClientFault) (told : Result A AnswerFault)

@@ -19,8 +19,8 @@ use Rattle.data_files.specs.Queries.{HoldsQuery, HasQueryFault, reads, refused}
 use Rattle.data_files.specs.Kept.{ReadsNamed}
 use Rattle.data_files.specs.Causes.{QueryCause}
 use Rattle.data_files.proofs.Outcomes.{one_query}
-use Rattle.command_endings.specs.declared.fault.AnswerFault.{AnswerFault}
-use Rattle.command_endings.specs.declared.fault.AnswerFault.TheVariants as faults
+use Rattle.answer_faults.specs.declared.fault.AnswerFault.{AnswerFault}
+use Rattle.answer_faults.specs.declared.fault.AnswerFault.TheVariants as faults
 use Rattle.query_command.specs.Files.{FailsByFile, KeepsOutput}
 use Rattle.query_command.specs.Limits.{QueriesAreAskable}
 use Rattle.query_command.proofs.Reading as reading

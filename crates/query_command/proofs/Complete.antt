@@ -31,9 +31,9 @@ use Rattle.data_files.specs.Data.{Files, served}
 use Rattle.data_files.specs.Queries.{reads}
 use Rattle.data_files.specs.Kept.{ReadsNamed}
 use Rattle.data_files.specs.Causes.{Gives, GivesQuery, DataDecides, QueryDecides}
-use Rattle.command_endings.specs.declared.fault.AnswerFault.{AnswerFault}
-use Rattle.command_endings.specs.declared.fault.AnswerFault.TheVariants as faults
-use Rattle.command_endings.specs.declared.fault.Counts.{Counts}
+use Rattle.answer_faults.specs.declared.fault.AnswerFault.{AnswerFault}
+use Rattle.answer_faults.specs.declared.fault.AnswerFault.TheVariants as faults
+use Rattle.answer_faults.specs.declared.fault.Counts.{Counts}
 use Rattle.query_command.specs.Blocks.{grammar_of}
 use Rattle.query_command.specs.Files.{FailsByFile, ReadsLocally, KeepsOutput}
 use Rattle.query_command.specs.Answers.{Answers, GivesAnswer, AskCause, AnswersSome, FitsOver, OfQuery, IsWanting, IsClientWanting, SucceedsOver, AsksServer}

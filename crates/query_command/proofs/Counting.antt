@@ -31,9 +31,9 @@ use Rattle.data_files.proofs.Causes.{gives_query}
 use Rattle.file_server.specs.Servers.{serving}
 use Rattle.page_responses.specs.Serving as core
 use Rattle.triple_table.specs.Stored.{Stored, triples_in}
-use Rattle.command_endings.specs.declared.fault.AnswerFault.{AnswerFault}
-use Rattle.command_endings.specs.declared.fault.AnswerFault.TheVariants as faults
-use Rattle.command_endings.specs.declared.fault.Counts.{Counts}
+use Rattle.answer_faults.specs.declared.fault.AnswerFault.{AnswerFault}
+use Rattle.answer_faults.specs.declared.fault.AnswerFault.TheVariants as faults
+use Rattle.answer_faults.specs.declared.fault.Counts.{Counts}
 use Rattle.query_command.specs.declared.local_query.OverWire.{OverWire}
 use Rattle.query_command.specs.Answers.{WritesOver, FailsOver, IsReading, GivesAnswer}
 use Rattle.query_command.specs.Generated.{usual_options, usual_config, CountsQuery, LoopsGenerated, AsksOver, FailsOn, FailsFileOver, GeneratedAnswers, GeneratedCause}

@@ -28,8 +28,8 @@ use Rattle.data_files.specs.Kept.{ReadsNamed}
 use Rattle.data_files.specs.Causes.{DataDecides, QueryDecides}
 use Rattle.data_files.proofs.Outcomes.{one_outcome, one_query}
 use Rattle.file_server.specs.Servers.{Starts, serving}
-use Rattle.command_endings.specs.declared.fault.AnswerFault.TheVariants as faults
-use Rattle.command_endings.specs.declared.fault.Counts.{Counts}
+use Rattle.answer_faults.specs.declared.fault.AnswerFault.TheVariants as faults
+use Rattle.answer_faults.specs.declared.fault.Counts.{Counts}
 use Rattle.query_command.specs.declared.local_query.OverWire.{OverWire}
 use Rattle.query_command.specs.Blocks.{grammar_of}
 use Rattle.query_command.specs.Files.{FailsByFile, ReadsLocally}

@@ -9,8 +9,8 @@ use Rattle.data_files.specs.declared.fault.QueryFileFault.{QueryFileFault}
 use Rattle.data_files.specs.declared.fault.QueryFileFault.TheVariants as query_faults
 use Rattle.data_files.specs.Kept.{ReadsNamed}
 use Rattle.data_files.specs.KeptLaws.{shelf_none, shelf_both, reads_keep}
-use Rattle.command_endings.specs.declared.fault.AnswerFault.{AnswerFault}
-use Rattle.command_endings.specs.declared.fault.AnswerFault.TheVariants as faults
+use Rattle.answer_faults.specs.declared.fault.AnswerFault.{AnswerFault}
+use Rattle.answer_faults.specs.declared.fault.AnswerFault.TheVariants as faults
 use Rattle.query_command.specs.Files.{OpensAtMost, OpensLocally, AsksLocally, FailsByFile, ReadsLocally}
 
 pub opens_two : (old mid new : ShelfState) → LeavesOpened old mid → LeavesOpened mid new → OpensAtMost 2 old new

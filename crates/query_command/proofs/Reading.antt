@@ -14,8 +14,8 @@ use Rattle.data_files.specs.Queries.{reads}
 use Rattle.data_files.specs.Causes.{DataDecides, QueryDecides}
 use Rattle.data_files.proofs.Outcomes.{one_outcome, one_query}
 use Rattle.data_files.proofs.Causes.{gives, gives_query}
-use Rattle.command_endings.specs.declared.fault.AnswerFault.{AnswerFault}
-use Rattle.command_endings.specs.declared.fault.AnswerFault.TheVariants as faults
+use Rattle.answer_faults.specs.declared.fault.AnswerFault.{AnswerFault}
+use Rattle.answer_faults.specs.declared.fault.AnswerFault.TheVariants as faults
 use Rattle.query_command.specs.Blocks.{grammar_of}
 use Rattle.query_command.specs.Answers.{Answers, AskCause, GivesAnswer}
 use Rattle.query_command.specs.Loops.{LocalView, LocalAnswers, LocalCause, GivesData}

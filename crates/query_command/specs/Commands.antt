@@ -9,8 +9,8 @@ use Rattle.tpf_client.specs.declared.options.Report.{Report}
 use Rattle.data_files.specs.declared.query.Grammar.TheVariants as grammars
 use Rattle.data_files.specs.Kept.{ReadsNamed}
 use Rattle.data_files.specs.Causes.{DataDecides, QueryDecides}
-use Rattle.command_endings.specs.declared.fault.AnswerFault.{AnswerFault}
-use Rattle.command_endings.specs.declared.fault.Counts.{Counts}
+use Rattle.answer_faults.specs.declared.fault.AnswerFault.{AnswerFault}
+use Rattle.answer_faults.specs.declared.fault.Counts.{Counts}
 use Rattle.query_command.specs.Files.{FailsByFile, ReadsLocally, KeepsOutput}
 use Rattle.query_command.specs.Blocks.{grammar_of}
 use Rattle.query_command.specs.Answers.{GivesAnswer, IsWanting}

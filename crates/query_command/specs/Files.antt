@@ -7,8 +7,8 @@ use Rattle.data_files.specs.declared.fault.DataFault.TheVariants as data_faults
 use Rattle.data_files.specs.declared.fault.QueryFileFault.TheVariants as query_faults
 use Rattle.tpf_client.specs.declared.fault.ClientFault.TheVariants as client_faults
 use Rattle.data_files.specs.Kept.{KeepsShelf, KeepsSink}
-use Rattle.command_endings.specs.declared.fault.AnswerFault.{AnswerFault}
-use Rattle.command_endings.specs.declared.fault.AnswerFault.TheVariants as faults
+use Rattle.answer_faults.specs.declared.fault.AnswerFault.{AnswerFault}
+use Rattle.answer_faults.specs.declared.fault.AnswerFault.TheVariants as faults
 
 -- At most so many more files were found, and what is left of those found before is as it was.
 pub record OpensAtMost (n : ℕ) (old new : ShelfState) : Type 0 where

@@ -24,9 +24,9 @@ use Rattle.data_files.specs.Data.{Files}
 use Rattle.data_files.specs.Queries.{IsOfQueryFile}
 use Rattle.data_files.specs.Causes.{QueryCause}
 use Rattle.file_server.specs.Servers.{serving}
-use Rattle.command_endings.specs.declared.fault.AnswerFault.{AnswerFault}
-use Rattle.command_endings.specs.declared.fault.AnswerFault.TheVariants as faults
-use Rattle.command_endings.specs.declared.fault.Counts.{Counts}
+use Rattle.answer_faults.specs.declared.fault.AnswerFault.{AnswerFault}
+use Rattle.answer_faults.specs.declared.fault.AnswerFault.TheVariants as faults
+use Rattle.answer_faults.specs.declared.fault.Counts.{Counts}
 use Rattle.query_command.specs.Answers.{WritesOver, FailsOver, Answers, AnswersSome}
 use Rattle.query_command.specs.Loops.{LoopsServer, local_base, local_config, allows_of, wire_of}
 

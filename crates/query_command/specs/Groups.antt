@@ -38,9 +38,9 @@ use Rattle.data_files.specs.Queries.{IsOfGroupFile, reads_groups}
 use Rattle.data_files.specs.Kept.{ReadsNamed}
 use Rattle.data_files.specs.Causes.{DataDecides, QueryDecides}
 use Rattle.file_server.specs.Servers.{serving}
-use Rattle.command_endings.specs.declared.fault.AnswerFault.{AnswerFault}
-use Rattle.command_endings.specs.declared.fault.AnswerFault.TheVariants as faults
-use Rattle.command_endings.specs.declared.fault.Counts.{Counts}
+use Rattle.answer_faults.specs.declared.fault.AnswerFault.{AnswerFault}
+use Rattle.answer_faults.specs.declared.fault.AnswerFault.TheVariants as faults
+use Rattle.answer_faults.specs.declared.fault.Counts.{Counts}
 use Rattle.query_command.specs.Files.{FailsByFile, ReadsLocally, KeepsOutput}
 use Rattle.query_command.specs.Blocks.{grammar_of}
 use Rattle.query_command.specs.Answers.{IsWanting, FitsCall, AsksServer}

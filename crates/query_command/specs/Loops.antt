@@ -31,8 +31,8 @@ use Rattle.data_files.specs.Data.{Files, IsOfFile, Outcome, served}
 use Rattle.data_files.specs.Queries.{IsOfQueryFile}
 use Rattle.data_files.specs.Causes.{DataCause, QueryCause, Gives}
 use Rattle.file_server.specs.Servers.{Starts, serving}
-use Rattle.command_endings.specs.declared.fault.AnswerFault.{AnswerFault}
-use Rattle.command_endings.specs.declared.fault.AnswerFault.TheVariants as faults
+use Rattle.answer_faults.specs.declared.fault.AnswerFault.{AnswerFault}
+use Rattle.answer_faults.specs.declared.fault.AnswerFault.TheVariants as faults
 use Rattle.query_command.specs.declared.local_query.LocalQuery as declared_local
 use Rattle.query_command.specs.Blocks.{in_blocks, grammar_of}
 use Rattle.query_command.specs.Answers.{WritesOver, FailsOver, Answers, AnswersSome}

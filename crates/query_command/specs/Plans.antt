@@ -26,9 +26,9 @@ use Rattle.tpf_client.specs.Requested.{AnswersPlan}
 use Rattle.data_files.specs.Data.{Files, IfTold, Serves}
 use Rattle.data_files.specs.Queries.{HoldsQuery, IsOfQueryFile}
 use Rattle.file_server.specs.Servers.{serving}
-use Rattle.command_endings.specs.declared.fault.AnswerFault.{AnswerFault}
-use Rattle.command_endings.specs.declared.fault.AnswerFault.TheVariants as faults
-use Rattle.command_endings.specs.declared.fault.Counts.{Counts}
+use Rattle.answer_faults.specs.declared.fault.AnswerFault.{AnswerFault}
+use Rattle.answer_faults.specs.declared.fault.AnswerFault.TheVariants as faults
+use Rattle.answer_faults.specs.declared.fault.Counts.{Counts}
 use Rattle.query_command.specs.Answers.{IsWanting}
 use Rattle.query_command.specs.Generated.{LoopsGenerated, usual_options, usual_config}
 use Rattle.query_command.specs.Loops.{LocalView, LoopsFile, LeavesHonest, local_base, local_config, wire_of}

@@ -25,8 +25,8 @@ use Rattle.data_files.specs.Data.{Files, IfTold}
 use Rattle.data_files.specs.Queries.{IsOfQueryFile, HasQueryFault}
 use Rattle.data_files.specs.Kept.{ReadsNamed}
 use Rattle.data_files.specs.Causes.{QueryCause}
-use Rattle.command_endings.specs.declared.fault.AnswerFault.{AnswerFault}
-use Rattle.command_endings.specs.declared.fault.AnswerFault.TheVariants as faults
+use Rattle.answer_faults.specs.declared.fault.AnswerFault.{AnswerFault}
+use Rattle.answer_faults.specs.declared.fault.AnswerFault.TheVariants as faults
 use Rattle.query_command.specs.Answers.{IsWanting, OfQuery}
 use Rattle.query_command.specs.Files.{FailsByFile, KeepsOutput}
 use Rattle.federated_query.specs.Limits.{IsShortStart, ServersFit, ServeOver, IsSmallAt, SucceedsWithin}

@@ -1,7 +1,7 @@
 // What a call over a wire came to, as what the whole query came to.
 ghost use Rattle.std.specs.Prelude.{◌≡◌, Ok, Err};
 
-use command_endings::AnswerFault;
+use answer_faults::AnswerFault;
 use tpf_client::ClientFault;
 
 /// What a call over the wire came to, as what the whole query came to.

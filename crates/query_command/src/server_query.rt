@@ -6,7 +6,7 @@ ghost use Rattle.query_command.specs.Groups.{ServerAsked};
 use crate::blocks::grammar_of;
 use crate::fault::answered;
 use crate::laws;
-use command_endings::AnswerFault;
+use answer_faults::AnswerFault;
 use data_files::read_query;
 use group_parser::Asked;
 use group_patterns::answer;

@@ -6,7 +6,7 @@ ghost use Rattle.federated_query.specs.Servers.{AreApart};
 ghost use Rattle.query_command.specs.Servers.{ServersAsked};
 
 use crate::laws;
-use command_endings::AnswerFault;
+use answer_faults::AnswerFault;
 use data_files::read_patterns;
 use federated_query::federate;
 use std::alloc::Global;

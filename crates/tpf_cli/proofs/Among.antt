@@ -20,9 +20,9 @@ use Rattle.data_files.specs.declared.fault.DataFault.{DataFault}
 use Rattle.data_files.specs.declared.fault.DataFault.TheVariants as data_faults
 use Rattle.data_files.specs.declared.fault.QueryFileFault.{QueryFileFault}
 use Rattle.data_files.specs.declared.fault.QueryFileFault.TheVariants as query_faults
-use Rattle.command_endings.specs.declared.fault.AnswerFault.{AnswerFault}
-use Rattle.command_endings.specs.declared.fault.AnswerFault.TheVariants as answers
-use Rattle.command_endings.specs.declared.fault.Counts.{Counts}
+use Rattle.answer_faults.specs.declared.fault.AnswerFault.{AnswerFault}
+use Rattle.answer_faults.specs.declared.fault.AnswerFault.TheVariants as answers
+use Rattle.answer_faults.specs.declared.fault.Counts.{Counts}
 use Rattle.query_command.specs.Groups.{group_plan_of, group_offer_of, MayEndGroup, FileAsked, ServerAsked, GeneratedAsked, Plain, Groups}
 use Rattle.query_command.specs.Generated.{usual_options, GeneratedCause}
 use Rattle.query_command.specs.Loops.{LocalView}

@@ -2,7 +2,7 @@
 use Rattle.std.proofs.Common.{ℕ, ◌≡◌, ◌<◌, ◌^◌, inl, inr, List, Option, Some, None, Result, refl, subst, arith}
 use Rattle.tpf_base.specs.Wrote.{SinkState}
 use Rattle.tpf_client.specs.declared.options.Report.{Report}
-use Rattle.command_endings.specs.declared.fault.AnswerFault.{AnswerFault}
+use Rattle.answer_faults.specs.declared.fault.AnswerFault.{AnswerFault}
 use Rattle.query_command.specs.Groups.{FileAsked}
 use Rattle.query_command.specs.Loops.{LocalView}
 use Rattle.command_words.specs.Commands.{Command, local, query, federate, serve, make}

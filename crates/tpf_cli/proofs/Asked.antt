@@ -16,9 +16,9 @@ use Rattle.tpf_client.specs.Bounds.{SuitsCalls}
 use Rattle.data_files.specs.declared.query.Grammar.TheVariants as grammars
 use Rattle.data_files.specs.Causes.{QueryDecides}
 use Rattle.data_files.specs.Kept.{KeepsSink}
-use Rattle.command_endings.specs.declared.fault.AnswerFault.{AnswerFault}
-use Rattle.command_endings.specs.declared.fault.AnswerFault.TheVariants as faults
-use Rattle.command_endings.specs.declared.fault.Counts.{Counts}
+use Rattle.answer_faults.specs.declared.fault.AnswerFault.{AnswerFault}
+use Rattle.answer_faults.specs.declared.fault.AnswerFault.TheVariants as faults
+use Rattle.answer_faults.specs.declared.fault.Counts.{Counts}
 use Rattle.query_command.specs.Groups.{GeneratedAsked}
 use Rattle.command_words.specs.declared.command.ClientWords.{ClientWords}
 use Rattle.tpf_cli.specs.Ranges.{IsClient}

@@ -26,9 +26,9 @@ use Rattle.data_files.specs.Causes.{GivesQuery}
 use Rattle.data_files.proofs.Outcomes.{one_outcome, one_query}
 use Rattle.file_server.specs.Servers.{serving}
 use Rattle.query_command.specs.Blocks.{grammar_of}
-use Rattle.command_endings.specs.declared.fault.AnswerFault.{AnswerFault}
-use Rattle.command_endings.specs.declared.fault.AnswerFault.TheVariants as answers
-use Rattle.command_endings.specs.declared.fault.Counts.{Counts}
+use Rattle.answer_faults.specs.declared.fault.AnswerFault.{AnswerFault}
+use Rattle.answer_faults.specs.declared.fault.AnswerFault.TheVariants as answers
+use Rattle.answer_faults.specs.declared.fault.Counts.{Counts}
 use Rattle.query_command.specs.Answers.{IsWanting}
 use Rattle.query_command.specs.Generated.{usual_options, usual_config}
 use Rattle.query_command.specs.Loops.{LocalView, local_config}

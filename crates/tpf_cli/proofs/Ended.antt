@@ -5,7 +5,7 @@ use Rattle.tpf_base.specs.Wrote.{SinkState}
 use Rattle.tpf_base.specs.declared.fault.Fault.{Fault}
 use Rattle.triple_table.specs.declared.choice.Choice.{Choice}
 use Rattle.tpf_client.specs.declared.options.Report.{Report}
-use Rattle.command_endings.specs.declared.fault.AnswerFault.{AnswerFault}
+use Rattle.answer_faults.specs.declared.fault.AnswerFault.{AnswerFault}
 use Rattle.query_command.specs.Groups.{FileAsked, ServerAsked}
 use Rattle.serve_command.specs.declared.fault.ServiceFault.{ServiceFault}
 use Rattle.serve_command.specs.Services.{ServesFile}

@@ -10,7 +10,7 @@ use Rattle.data_files.specs.Queries.{reads_groups}
 use Rattle.data_files.proofs.Outcomes.{one_outcome, one_query}
 use Rattle.file_server.specs.Servers.{serving}
 use Rattle.query_command.specs.Blocks.{grammar_of}
-use Rattle.command_endings.specs.declared.fault.AnswerFault.{AnswerFault}
+use Rattle.answer_faults.specs.declared.fault.AnswerFault.{AnswerFault}
 use Rattle.query_command.specs.Groups.{FileAsked, Plain, Groups, group_plan_of}
 use Rattle.query_command.specs.Loops.{LocalView, local_config}
 use Rattle.query_command.specs.Plans.{CountsRequests}

@@ -19,12 +19,12 @@ use Rattle.data_files.specs.Data.{IfTold, Serves, served}
 use Rattle.data_files.specs.Kept.{KeepsShelf, KeepsSink}
 use Rattle.data_files.specs.KeptLaws.{shelf_same, reads_keep, sink_same}
 use Rattle.query_command.specs.Blocks.{grammar_of}
-use Rattle.command_endings.specs.declared.fault.AnswerFault.{AnswerFault}
-use Rattle.command_endings.specs.declared.fault.AnswerFault.TheVariants as answers
+use Rattle.answer_faults.specs.declared.fault.AnswerFault.{AnswerFault}
+use Rattle.answer_faults.specs.declared.fault.AnswerFault.TheVariants as answers
 use Rattle.query_command.specs.Files.{FailsByFile}
 use Rattle.query_command.specs.Answers.{FitsOver, OfQuery, IsWanting}
 use Rattle.query_command.specs.Groups.{FileAsked, ServerAsked, GeneratedAsked, Plain, Groups}
-use Rattle.command_endings.specs.declared.fault.Counts.{Counts}
+use Rattle.answer_faults.specs.declared.fault.Counts.{Counts}
 use Rattle.query_command.specs.Generated.{usual_options, usual_config}
 use Rattle.query_command.specs.Loops.{LocalView, local_config}
 use Rattle.query_command.specs.Plans.{plan_of, offer_of, EndsCounted, MayFail, OfFiles, OfGenerated, PlanIsWithin}

@@ -21,12 +21,12 @@ use Rattle.data_files.specs.declared.query.Grammar.TheVariants as grammars
 use Rattle.data_files.specs.Causes.{QueryDecides, GivesQuery}
 use Rattle.data_files.specs.Queries.{QueryOutcome, reads_groups}
 use Rattle.data_files.specs.Kept.{KeepsSink}
-use Rattle.command_endings.specs.declared.fault.AnswerFault.{AnswerFault}
-use Rattle.command_endings.specs.declared.fault.AnswerFault.TheVariants as answer_faults
+use Rattle.answer_faults.specs.declared.fault.AnswerFault.{AnswerFault}
+use Rattle.answer_faults.specs.declared.fault.AnswerFault.TheVariants as answer_faults
 use Rattle.query_command.specs.Answers.{IsReading}
 use Rattle.query_command.specs.Loops.{LocalView}
 use Rattle.query_command.specs.Groups.{FileAsked, ServerAsked, GeneratedAsked}
-use Rattle.command_endings.specs.declared.fault.Counts.{Counts}
+use Rattle.answer_faults.specs.declared.fault.Counts.{Counts}
 use Rattle.serve_command.specs.Services.{ServesFile}
 use Rattle.command_words.specs.declared.command.ClientWords.{ClientWords}
 use Rattle.command_words.specs.declared.command.LocalWords.{LocalWords}

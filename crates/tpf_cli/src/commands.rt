@@ -13,7 +13,8 @@ ghost use Rattle.tpf_cli.specs.Ranges.{IsClient, IsTyped};
 ghost use Rattle.tpf_cli.specs.Runs.{WritesNumbers, CountsFile, asked_of, config_in, options_of, unwritten, wire_inside};
 
 use crate::top::Inside;
-use command_endings::{AnswerFault, Counts, write_sizes};
+use answer_faults::{AnswerFault, Counts};
+use command_endings::write_sizes;
 use command_words::{ClientWords, FederateWords, LocalWords, QueryWords, ServeWords};
 use fragment_server::FragmentConnection;
 use loop_wire::LoopWire;

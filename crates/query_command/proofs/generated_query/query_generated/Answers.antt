@@ -3,9 +3,9 @@ use Rattle.std.proofs.Common.{Result, Ok, Err, refl}
 use Rattle.data_files.specs.declared.fault.DataFault.TheVariants as data_faults
 use Rattle.data_files.specs.declared.query.Grammar.TheVariants as grammars
 use Rattle.data_files.specs.KeptLaws.{reads_as}
-use Rattle.command_endings.specs.declared.fault.Counts.{Counts}
-use Rattle.command_endings.specs.declared.fault.AnswerFault.{AnswerFault}
-use Rattle.command_endings.specs.declared.fault.AnswerFault.TheVariants as faults
+use Rattle.answer_faults.specs.declared.fault.Counts.{Counts}
+use Rattle.answer_faults.specs.declared.fault.AnswerFault.{AnswerFault}
+use Rattle.answer_faults.specs.declared.fault.AnswerFault.TheVariants as faults
 use Rattle.query_command.specs.Groups as sums
 use Rattle.query_command.proofs.Counting.{generated_answers, generated_fault, generated_planned, generated_honest, generated_sent, generated_requested, generated_replied, generated_ends}
 use Rattle.query_command.proofs.Answered.{by_call}

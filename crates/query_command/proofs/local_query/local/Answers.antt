@@ -9,8 +9,8 @@ use Rattle.data_files.specs.Queries.{IsOfGroupFile}
 use Rattle.data_files.specs.KeptLaws.{reads_keep, sink_none}
 use Rattle.file_server.specs.Servers.{Starts, serving}
 use Rattle.tpf_client.specs.declared.options.Report.{Report}
-use Rattle.command_endings.specs.declared.fault.AnswerFault.{AnswerFault}
-use Rattle.command_endings.specs.declared.fault.AnswerFault.TheVariants as faults
+use Rattle.answer_faults.specs.declared.fault.AnswerFault.{AnswerFault}
+use Rattle.answer_faults.specs.declared.fault.AnswerFault.TheVariants as faults
 use Rattle.query_command.specs.Blocks.{grammar_of}
 use Rattle.query_command.specs.Loops.{local_view}
 use Rattle.query_command.specs.Groups as sums

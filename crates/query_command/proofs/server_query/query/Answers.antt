@@ -5,8 +5,8 @@ use Rattle.data_files.specs.Causes.{QueryCause}
 use Rattle.data_files.specs.Queries.{IsOfGroupFile}
 use Rattle.data_files.specs.KeptLaws.{reads_as, sink_none}
 use Rattle.tpf_client.specs.declared.options.Report.{Report}
-use Rattle.command_endings.specs.declared.fault.AnswerFault.{AnswerFault}
-use Rattle.command_endings.specs.declared.fault.AnswerFault.TheVariants as faults
+use Rattle.answer_faults.specs.declared.fault.AnswerFault.{AnswerFault}
+use Rattle.answer_faults.specs.declared.fault.AnswerFault.TheVariants as faults
 use Rattle.query_command.specs.Groups as sums
 use Rattle.query_command.proofs.Answered.{by_call}
 use Rattle.query_command.proofs.Complete.{asks_server, asks_failed}

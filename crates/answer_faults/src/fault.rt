@@ -15,7 +15,7 @@ pub enum AnswerFault {
 }
 
 /// What a query of generated data came to.
-#[derive(Clone, Copy, PartialEq, Eq)]
+#[derive(Clone, Copy)]
 pub struct Counts {
     /// How many triples the data have, each counted once.
     pub triples: u64,
