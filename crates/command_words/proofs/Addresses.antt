@@ -1,5 +1,5 @@
 -- A text is read as an address exactly where it is one.
-use Rattle.std.proofs.Common.{ℕ, ◌≡◌, ◌∙◌, ◌<◌, ◌≤◌, sym, ap, subst, refl, codes, zero, suc, true, false, ◌==◌, nat_eq, nat_le, List, [], ◌∷◌, ◌++◌, length, take, drop, Option, Some, None, arith, take-append-drop}
+use Rattle.std.proofs.Common.{ℕ, ◌≡◌, ◌∙◌, ◌≤◌, sym, ap, subst, refl, codes, zero, suc, true, nat_eq, nat_le, List, [], ◌∷◌, ◌++◌, length, take, drop, Option, Some, None, arith, take-append-drop}
 use Rattle.std.specs.List.{list_all, starts_with, take_while}
 use Rattle.std.specs.Option.{option_map}
 use Rattle.std.specs.Char.{is_ascii_digit}
@@ -9,7 +9,7 @@ use Rattle.std.proofs.lemmas.Slice.Eq.{bytes_eq-Decides}
 use Rattle.std.proofs.lemmas.Bool.Decides.{nat_tests}
 use Rattle.list_laws.proofs.Lists.{some_digits}
 use Rattle.list_laws.proofs.Options.{bind_some, when_some}
-use Rattle.tpf_base.specs.Addresses.{Address, IsAddress, is_host_byte, is_host}
+use Rattle.tpf_base.specs.Addresses.{IsAddress, is_host_byte, is_host}
 use Rattle.template_fill.specs.WebAddress.{IsNoAddress}
 use Rattle.template_fill.specs.ReadAddress.{Spelled, IsSpelled, Spells, SpellsPort, ◌>>=◌, when, after_scheme, is_port_text, is_rest, normal, opened, port_after, port_part, read_address, read_spelled}
 use Rattle.command_words.specs.declared.limits.TheConstants.{LONGEST_TYPED}

@@ -4,7 +4,7 @@ use Rattle.std.specs.Prelude.{codes}
 use Rattle.std.specs.List.{list_all}
 use Rattle.std.specs.Char.{is_ascii}
 use Rattle.rdf_terms.specs.Iri.{is_iri_byte}
-use Rattle.tpf_base.specs.Addresses.{Address, IsAddress, is_host, is_address_byte, authority_text, authority_of, target_of, address_text}
+use Rattle.tpf_base.specs.Addresses.{Address, IsAddress, is_address_byte, authority_text, authority_of, target_of, address_text}
 use Rattle.template_fill.specs.ReadAddress.{read_spelled, with_target}
 use Rattle.template_fill.specs.WebAddress.{IsNormal, Extends, port_text}
 use Rattle.own_controls.specs.Safe.{IsWeb}

@@ -18,6 +18,7 @@ mod pages;
 mod runs;
 mod seen;
 mod served;
+mod turns;
 
 use case_rows::{Answers, Case, CaseFault, run};
 use std::alloc::Global;

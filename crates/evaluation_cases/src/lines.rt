@@ -34,11 +34,7 @@ fn line(alloc: Global, row: &Row) -> Result<String, CaseFault> {
     }
 }
 
-/// Adds the line of a row, if there is one, and says whether there was one.
-pub fn add_row(alloc: Global, row: Option<Row>, rows: &mut Vec<String>) -> Result<bool, CaseFault> {
-    let Some(row) = row else {
-        return Ok(false);
-    };
-    rows.push(line(alloc, &row)?)?;
-    Ok(true)
+/// Adds the line of a row.
+pub fn add_row(alloc: Global, row: &Row, rows: &mut Vec<String>) -> Result<(), CaseFault> {
+    Ok(rows.push(line(alloc, row)?)?)
 }

@@ -47,11 +47,8 @@ pub fn new_run<'a>(alloc: Global, pages: Pages<'a>, pace: Pace<'a>) -> Run<'a> {
     }
 }
 
-/// Notes the address of an ask, which is then out, if there is one, and says whether to ask on.
-pub fn keep(alloc: Global, ask: Option<Ask>, run: &mut Run<'_>) -> Result<bool, CaseFault> {
-    let Some(ask) = ask else {
-        return Ok(false);
-    };
+/// Notes the address of an ask, which is then out, and says whether to ask on.
+pub fn keep(alloc: Global, ask: Ask, run: &mut Run<'_>) -> Result<bool, CaseFault> {
     let address = String::from_str(alloc, ask.address.text())?;
     run.seen.asked.push(address)?;
     run.held.push(ask)?;

@@ -15,14 +15,13 @@ use Rattle.http_wire.proofs.ConnectionLemmas.{heads_at, more_heads}
 use Rattle.http_ends.proofs.Marks.{padded}
 use Rattle.http_ends.proofs.Growing.{longer_heads}
 use Rattle.connections.specs.Versions.{IsHistory}
-use Rattle.connections.specs.Kinds.{BeginsResponse, Feeds, Fills, Grows, IsNoFailure, IsOutcome, IsWhole, Opens, Reads, Reloads}
+use Rattle.connections.specs.Kinds.{BeginsResponse, Feeds, Fills, Grows, IsNoFailure, IsWhole, Opens, Reads, Reloads}
 use Rattle.connections.specs.declared.reloaded.Reloaded.{Reloaded}
 use Rattle.connections.specs.declared.reloaded.Reloaded.TheVariants as outcomes
 use Rattle.page_responses.specs.Serving as core
 use Rattle.page_responses.specs.Serving.{IsHistoryOf}
 use Rattle.tpf_server.specs.Read.{Stands, heads_then}
 use Rattle.tpf_server.specs.Reading.{is_ended, waits}
-use Rattle.tpf_server.specs.Reloads as core_outcomes
 use Rattle.tpf_server.specs.Conversation as conversations
 use Rattle.tpf_server.specs.Conversation.{Answers, Conversation, Makes, ReadsFurther, opening, owed_text, owes, wants_reload}
 use Rattle.tpf_server.specs.declared.reading.Reading.{Reading}

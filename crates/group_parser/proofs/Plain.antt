@@ -8,7 +8,6 @@ use Rattle.bgp_core.specs.declared.pattern.Pattern.{Pattern}
 use Rattle.bgp_core.specs.Queries.{QueryData}
 use Rattle.rdf_terms.specs.declared.term.Term.{Term}
 use Rattle.query_grammar.specs.declared.kind.Kind.{Kind}
-use Rattle.query_grammar.specs.declared.kind.Kind.TheVariants as kinds
 use Rattle.query_grammar.specs.Grammar as grammar
 use Rattle.query_grammar.specs.Grammar.{code, codes, IsQuery}
 use Rattle.query_grammar.specs.Groups.{IsPlainKind, ArePlain, PlainIsQuery}

@@ -10,7 +10,7 @@ use Rattle.connections.specs.Kinds.{Kind, IsWhole}
 use Rattle.connections.specs.Versions.{Serving}
 use Rattle.connections.proofs.Histories.{some_history}
 use Rattle.loop_wire.specs.Response.{Answering, IsResponse, BeginsAt, Continues, Stays, Lasts}
-use Rattle.loop_wire.specs.Held.{Held, told, settled, stalled_at, sent_more, received_more, ended_now, closed, woken_now, after_send, after_receive, IsHeld, IsTalking, Talks, IsKept, Hears, Gives}
+use Rattle.loop_wire.specs.Held.{Held, told, settled, stalled_at, sent_more, received_more, ended_now, closed, woken_now, after_send, after_receive, IsHeld, IsTalking, IsKept, Hears, Gives}
 
 -- ---- what is owed
 

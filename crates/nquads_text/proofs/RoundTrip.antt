@@ -19,7 +19,7 @@ use Rattle.rdf_terms.specs.declared.term.Term.TheVariants.{Iri, Blank, Literal}
 use Rattle.rdf_terms.specs.declared.term.Kind.{Kind}
 use Rattle.rdf_terms.specs.declared.term.Kind.TheVariants.{Plain, Typed, Tagged}
 use Rattle.rdf_terms.proofs.Tags.{lower_all}
-use Rattle.nquads_text.specs.declared.fault.Why.{Why}
+use Rattle.nquads_text.specs.declared.fault.Why.TheVariants.{RelativeIri, LangString, TermTooLong}
 use Rattle.nquads_text.specs.Grammar.{is_form_byte, is_short_escape, IsIriItem, IsFormItem, all_of, Each, AreItems, SkipsBlanks, ReadsKind, ReadsTerm, ReadsGraph, IsStatement}
 use Rattle.nquads_text.specs.Meaning.{short_value, item_value, items_value, MeansText, MeansKind, MeansTerm, MeansGraph, MeansQuad}
 use Rattle.nquads_text.specs.Faults.{is_relative, is_relative_kind, has_lang_string, is_lang_kind, has_long_label, is_too_long, graph_passes, some_term, fault_of}
@@ -423,7 +423,7 @@ no_fault longest q r =
     let z : some_term (is_too_long longest) q ≡ false = four (is_too_long longest q.triple.subject) (is_too_long longest q.triple.predicate) (is_too_long longest q.triple.object) (graph_passes (is_too_long longest) q.graph) s.long p.long o.long g.2 in
     three (some_term is_relative q) (some_term has_lang_string q) (some_term (is_too_long longest) q) x y z
   where
-    three : (a b d : Bool) → a ≡ false → b ≡ false → d ≡ false → (if a then Some Rattle.nquads_text.specs.declared.fault.Why.TheVariants.RelativeIri else (if b then Some Rattle.nquads_text.specs.declared.fault.Why.TheVariants.LangString else (if d then Some Rattle.nquads_text.specs.declared.fault.Why.TheVariants.TermTooLong else None))) ≡ None
+    three : (a b d : Bool) → a ≡ false → b ≡ false → d ≡ false → (if a then Some RelativeIri else (if b then Some LangString else (if d then Some TermTooLong else None))) ≡ None
     three a b d e f h = rw (e, f, h) refl
 
 -- ---- the text

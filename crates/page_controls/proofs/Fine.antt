@@ -16,7 +16,7 @@ use Rattle.template_fill.specs.WebAddress.{OneAddress}
 use Rattle.template_fill.specs.declared.form.Form.{Form}
 use Rattle.fragment_page.specs.declared.page.PageFault.{PageFault}
 use Rattle.fragment_page.specs.declared.page.PageFault.TheVariants as faults
-use Rattle.control_triples.specs.Controls.{IsOnly, HasTwo, IsCountObject, IsNumber, IsCount, HasNoCount, HasBadCount, FormTexts, IsLiteral, IsForm, HasNoForm, IsLeastForm, IsLink, IsNextObject, IsNext, HasTwoNext, HasForeignNext, IsVersionObject, IsVersion}
+use Rattle.control_triples.specs.Controls.{IsCountObject, IsNumber, IsCount, HasNoCount, HasBadCount, FormTexts, IsLiteral, IsForm, HasNoForm, IsLeastForm, IsLink, IsNextObject, IsNext, HasTwoNext, HasForeignNext, IsVersionObject, IsVersion}
 use Rattle.control_triples.proofs.Only.{only_not_two, only_one}
 use Rattle.page_controls.specs.Controls.{names_all, IsFormOf, HasBadTemplate, IsHome, IsForeign}
 use Rattle.control_triples.specs.Contents.{HasBlankData}

@@ -31,7 +31,6 @@ use Rattle.serve_command.specs.declared.fault.ServiceFault.{ServiceFault}
 use Rattle.serve_command.specs.declared.fault.ServiceFault.TheVariants as services
 use Rattle.query_command.specs.Servers.{ServersAsked}
 use Rattle.command_words.specs.Commands.{Command, Federated, local, query, federate, serve, make}
-use Rattle.command_endings.specs.Endings as ends
 use Rattle.command_endings.specs.Endings.{EndOfRun, data_status, query_status, client_status, fault_status, answer_status, service_status, made_status, counted_status, Says}
 use Rattle.tpf_cli.specs.Ranges.{IsInRange}
 use Rattle.tpf_cli.specs.Runs.{Around, WritesNumbers, CountsFile, DoesOf, unwritten, wire_inside, options_of, view_of}

@@ -20,7 +20,7 @@ use Rattle.page_responses.specs.declared.rest.Rest.{Rest}
 use Rattle.page_responses.specs.declared.rest.Rest.TheVariants.{Nothing}
 use Rattle.page_responses.specs.Statuses.{version_line}
 use Rattle.page_responses.specs.Serving.{Serving, IsHistoryOf, data_of}
-use Rattle.page_responses.specs.Rests.{IsWithin, is_left, rest_text}
+use Rattle.page_responses.specs.Rests.{is_left, rest_text}
 use Rattle.page_responses.proofs.LeftLaws.{long_rest}
 use Rattle.tpf_server.specs.declared.asked.Queued.{Queued}
 use Rattle.tpf_server.specs.declared.outcome.Reloaded.{Reloaded}

@@ -1,7 +1,6 @@
 -- What is owed, and how it becomes less part by part.
-use Rattle.std.proofs.Common.{◌≡◌, ℕ, ◌-◌, ◌<◌, ◌≤◌, Bool, true, false, List, [], ◌∷◌, ◌++◌, length, take, Result, Ok, Err, refl, ap, ap₂, sym, subst, ◌∙◌, arith, append_assoc, append-nil, length-append, if◌then◌else◌}
+use Rattle.std.proofs.Common.{◌≡◌, ℕ, ◌-◌, ◌<◌, ◌≤◌, Bool, true, false, List, [], ◌∷◌, ◌++◌, length, take, Result, Ok, Err, refl, ap, ap₂, sym, subst, ◌∙◌, arith, append_assoc, length-append, if◌then◌else◌}
 use Rattle.std.specs.Prelude.{nat_lt, ◌||◌, OnOk, is_err}
-use Rattle.std.specs.List.{AllByRecursion}
 use Rattle.std.proofs.lemmas.Bool.{or_parts, true≢false}
 use Rattle.list_laws.specs.Begins.{Begins}
 use Rattle.list_laws.proofs.Begins.{cut_back}
@@ -19,9 +18,8 @@ use Rattle.page_responses.proofs.RestLaws.{rest_done, no_length}
 use Rattle.tpf_server.specs.declared.limits.TheConstants.{MOST_PENDING}
 use Rattle.tpf_server.specs.declared.asked.Queued.{Queued}
 use Rattle.tpf_server.specs.declared.owed.Debt.{Debt}
-use Rattle.tpf_server.specs.Asked.{IsAsked}
 use Rattle.tpf_server.specs.Opened.{Opens}
-use Rattle.tpf_server.specs.Owed.{Fills, FillsUp, Fits, debt_left, debt_text, queue_text, queued_text}
+use Rattle.tpf_server.specs.Owed.{Fills, FillsUp, debt_left, debt_text, queue_text, queued_text}
 
 -- ---- an answer is begun
 

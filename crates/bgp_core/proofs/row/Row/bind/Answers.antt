@@ -1,6 +1,6 @@
 use Rattle.std.proofs.Common.{rules, ◌≡◌, ◌++◌, ◌∷◌, [], map, ap, ◌∙◌}
 use Rattle.list_laws.proofs.Lists.{map_snoc}
-use Rattle.bgp_core.specs.Rows.{bound_pair, places_from}
+use Rattle.bgp_core.specs.Rows.{bound_pair}
 use Rattle.bgp_core.proofs.Places.{bind-done}
 use Rattle.bgp_core.proofs.row.Row.bind.Goals as goal
 

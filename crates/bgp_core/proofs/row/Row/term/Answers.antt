@@ -1,5 +1,4 @@
-use Rattle.std.proofs.Common.{map, ap, ◌∙◌, ◌≡◌, Some, None, subst}
-use Rattle.std.specs.Prelude.{MatchOption}
+use Rattle.std.proofs.Common.{map, ap, ◌∙◌, ◌≡◌}
 use Rattle.bgp_core.specs.Rows.{bound_pair, term_in}
 use Rattle.bgp_core.proofs.Places.{at-within, at-beyond, told-so}
 use Rattle.bgp_core.proofs.row.Row.term.Goals as goal

@@ -1,4 +1,0 @@
-use Rattle.evaluation_cases.proofs.federations.+ask_all.Given as goal
-
-abbrev pub decreases-ask_all : goal.decreases-ask_all
-decreases-ask_all l = l.most

@@ -1,4 +1,0 @@
-use Rattle.evaluation_cases.proofs.federations.+take_rows.Given as goal
-
-abbrev pub decreases-take_rows : goal.decreases-take_rows
-decreases-take_rows l = l.most

@@ -1,4 +1,0 @@
-use Rattle.evaluation_cases.proofs.joins.+answer_some.Given as goal
-
-abbrev pub decreases-answer_some : goal.decreases-answer_some
-decreases-answer_some l = l.most
