@@ -20,11 +20,7 @@ pub trait Runs: Evaluates {
 
 /// Asks for the next page, if there is one now, and says whether to ask on.
 #[tactic(auto, using(crate::proofs::Counts::asked_one))]
-fn ask_next<E: Runs>(
-    alloc: Global,
-    evaluation: &mut E,
-    run: &mut Run<'_>,
-) -> Result<bool, RunFault>
+fn ask_next<E: Runs>(alloc: Global, evaluation: &mut E, run: &mut Run<'_>) -> Result<bool, RunFault>
     requires { (E.standing evaluation.old).given < 2 ^ 64 - 1 }
     ensures { OnOk result ((E.standing evaluation.new).given ≤ (E.standing evaluation.old).given + 1) }
 {
