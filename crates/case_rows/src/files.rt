@@ -1,11 +1,11 @@
 // Files of rows.
 ghost use Rattle.std.specs.Prelude.{◌≡◌, length, IfOk};
 
+use crate::names::Names;
 use crate::rows::{Row, rows_of};
 use crate::tally::{counted, line_of};
 use crate::told::told_of;
 use crate::{Case, CaseFault};
-use serde_json::Value;
 use std::alloc::{AllocError, Global};
 use std::rt::Files;
 use std::{fs, io};
@@ -20,7 +20,7 @@ pub trait Answers {
 fn told_of_rows<A: Answers>(
     alloc: Global,
     answers: &A,
-    names: &Value,
+    names: &Names,
     rows: &[Row],
 ) -> Result<Vec<Option<String>>, AllocError>
     ensures { IfOk result (λ told. length told.items ≡ length rows.now) }
@@ -81,7 +81,7 @@ fn rows_of_file<R: Files + AllocGlobal>(rt: &R, file: &str) -> io::Result<Vec<Ro
 fn run_file<R: Files + Print + AllocGlobal, A: Answers>(
     rt: &R,
     answers: &A,
-    names: &Value,
+    names: &Names,
     file: &str,
 ) -> io::Result<usize> {
     let rows = rows_of_file(rt, file)?;
@@ -94,7 +94,7 @@ fn run_file<R: Files + Print + AllocGlobal, A: Answers>(
 fn run_each<R: Files + Print + AllocGlobal, A: Answers>(
     rt: &R,
     answers: &A,
-    names: &Value,
+    names: &Names,
     files: &[&str],
 ) -> io::Result<bool> {
     let mut all_right = true;
@@ -112,12 +112,10 @@ fn run_files<R: Files + Print + AllocGlobal, A: Answers>(
     files: &[&str],
 ) -> io::Result<bool> {
     let text = fs::read_to_string(rt, names)?;
-    let Ok(names) = Value::from_str(rt.alloc(), text.as_str()) else {
-        return Err(io::Error::other("the names are no JSON"));
-    };
-    let all_right = run_each(rt, answers, &names, files);
-    drop(names);
-    all_right
+    match Names::read(rt.alloc(), text.as_str()) {
+        Ok(names) => run_each(rt, answers, &names, files),
+        Err(_) => Err(io::Error::other("the names are no JSON object of texts")),
+    }
 }
 
 /// Answers the rows of the files, where `names` has the texts with names. Prints each row that differs, with its

@@ -21,6 +21,7 @@ mod answer_text;
 mod case;
 mod fault;
 mod files;
+mod names;
 mod results;
 mod rows;
 mod tally;

@@ -1,6 +1,7 @@
 // The texts of a row.
 use crate::CaseFault;
-use serde_json::Value;
+use crate::names::Names;
+use json::Value;
 use std::alloc::Global;
 use std::str;
 
@@ -8,13 +9,16 @@ use std::str;
 pub const DEPTH: usize = 8;
 
 /// The member of a value that is a text.
-fn text_of<'a>(value: &'a Value, member: &str) -> Option<&'a str> {
-    value.get(member).and_then(Value::as_str)
+fn text_of<'a>(value: &Value<'a>, member: &str) -> Option<&'a str> {
+    match value.get(member) {
+        Some(value) => value.as_str(),
+        None => None,
+    }
 }
 
 /// Appends the text with a name.
-fn push_named(names: &Value, name: &str, out: &mut Vec<u8>) -> Result<(), CaseFault> {
-    match text_of(names, name) {
+fn push_named(names: &Names, name: &str, out: &mut Vec<u8>) -> Result<(), CaseFault> {
+    match names.find(name) {
         Some(text) => Ok(out.extend_from_slice(text.as_bytes())?),
         None => Err(CaseFault::Row),
     }
@@ -23,7 +27,7 @@ fn push_named(names: &Value, name: &str, out: &mut Vec<u8>) -> Result<(), CaseFa
 /// Appends the texts whose names are the letters.
 fn push_letters(
     alloc: Global,
-    names: &Value,
+    names: &Names,
     letters: &str,
     out: &mut Vec<u8>,
 ) -> Result<(), CaseFault> {
@@ -94,12 +98,20 @@ fn push_numbers(
 }
 
 /// The member of a part that is a number.
-pub fn number_of(part: &Value, member: &str) -> Option<u64> {
-    part.get(member).and_then(Value::as_u64)
+fn number_of(part: &Value<'_>, member: &str) -> Option<u64> {
+    match part.get(member) {
+        Some(value) => value.as_u64(),
+        None => None,
+    }
 }
 
 /// Appends what a part makes of a text.
-fn push_made(alloc: Global, part: &Value, once: &[u8], out: &mut Vec<u8>) -> Result<(), CaseFault> {
+fn push_made(
+    alloc: Global,
+    part: &Value<'_>,
+    once: &[u8],
+    out: &mut Vec<u8>,
+) -> Result<(), CaseFault> {
     if let Some(times) = number_of(part, "times") {
         return push_times(once, times, out);
     }
@@ -122,7 +134,7 @@ enum Plain<'a> {
 }
 
 /// The text that a value is, if it is made of no other.
-fn plain_of(value: &Value) -> Option<Plain<'_>> {
+fn plain_of<'a>(value: &Value<'a>) -> Option<Plain<'a>> {
     if let Some(text) = value.as_str() {
         return Some(Plain::Text(text));
     }
@@ -141,7 +153,7 @@ fn plain_of(value: &Value) -> Option<Plain<'_>> {
 /// Appends a text that is made of no other.
 fn push_plain(
     alloc: Global,
-    names: &Value,
+    names: &Names,
     plain: Plain<'_>,
     out: &mut Vec<u8>,
 ) -> Result<(), CaseFault> {
@@ -156,8 +168,8 @@ fn push_plain(
 /// Appends the bytes that a value of a row stands for.
 pub fn push_text(
     alloc: Global,
-    names: &Value,
-    value: &Value,
+    names: &Names,
+    value: &Value<'_>,
     depth: usize,
     out: &mut Vec<u8>,
 ) -> Result<(), CaseFault> {
@@ -167,7 +179,7 @@ pub fn push_text(
     if let Some(plain) = plain_of(value) {
         return push_plain(alloc, names, plain, out);
     }
-    if let Some(parts) = value.as_array() {
+    if let Value::Array(parts) = value {
         for part in parts {
             push_text(alloc, names, part, depth - 1, out)?;
         }

@@ -4,8 +4,9 @@ ghost use Rattle.std.specs.String.{string_bytes};
 ghost use Rattle.case_rows.specs.Rows.{IsWanted};
 
 use crate::files::Answers;
+use crate::names::Names;
 use crate::{Case, CaseFault};
-use serde_json::Value;
+use json::{Scratch, Value};
 use std::alloc::{AllocError, Global};
 
 /// The answers that a row wants: one, and maybe another that is as good.
@@ -73,21 +74,41 @@ fn answered<A: Answers>(
     answered_as(alloc, answers, call.as_str(), &wanted, case)
 }
 
+/// Answers the row with these members, and tells what is wrong with it, if anything is.
+fn answered_row<'a, A: Answers>(
+    alloc: Global,
+    answers: &A,
+    names: &'a Names,
+    row: Value<'a>,
+) -> Result<Option<String>, CaseFault> {
+    let mut case = Case::new(row, names)?;
+    answered(alloc, answers, &mut case)
+}
+
+/// Answers the row of a text, and tells what is wrong with it, if anything is.
+fn answered_text<'a, A: Answers>(
+    alloc: Global,
+    answers: &A,
+    names: &'a Names,
+    row: &'a str,
+    scratch: &'a mut Scratch,
+) -> Result<Option<String>, CaseFault> {
+    match Value::parse(alloc, row, scratch) {
+        Ok(row) => answered_row(alloc, answers, names, row),
+        Err(_) => Ok(Some(String::from_str(alloc, "no JSON")?)),
+    }
+}
+
 /// What is wrong with a row, if anything is: it is no JSON, lacks a member or has one that its call does not ask for,
 /// or its answer differs.
 pub fn told_of<A: Answers>(
     alloc: Global,
     answers: &A,
-    names: &Value,
+    names: &Names,
     row: &str,
 ) -> Result<Option<String>, AllocError> {
-    let Ok(members) = Value::from_str(alloc, row) else {
-        return Ok(Some(String::from_str(alloc, "no JSON")?));
-    };
-    let mut case = Case::new(members, names);
-    let told = answered(alloc, answers, &mut case);
-    drop(case);
-    match told {
+    let mut scratch = Scratch::new(alloc);
+    match answered_text(alloc, answers, names, row, &mut scratch) {
         Ok(told) => Ok(told),
         Err(fault) => Ok(Some(format!(in alloc; "{fault:?}")?)),
     }
