@@ -2,6 +2,5 @@ pub mod Standing
 pub mod Numbers
 pub mod Together
 pub mod Covering
-pub mod Tested
 pub mod Fitting
 mod Still

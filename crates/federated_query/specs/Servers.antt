@@ -1,6 +1,6 @@
 -- Several servers, each at an authority of its own, of which one query is asked together.
-use Rattle.std.specs.Prelude.{ℕ, ◌≡◌, ◌&&◌, Bool, true, not, bytes_eq, List, [], ◌∷◌}
-use Rattle.std.specs.List.{All, list_any}
+use Rattle.std.specs.Prelude.{ℕ, ◌≡◌, List, [], ◌∷◌}
+use Rattle.std.specs.List.{All}
 use Rattle.tpf_base.specs.Addresses.{Address, authority_of}
 use Rattle.tpf_base.specs.Links.{WireState}
 use Rattle.request_plan.specs.Worlds.{World}
@@ -14,14 +14,6 @@ use Rattle.tpf_client.specs.Ends.{AreHonestServers}
 abbrev pub AreApart : List Address → Type 0
 AreApart [] = Unit {0}
 AreApart (start ∷ starts) = All (λ other. authority_of start ≡ authority_of other → ⊥) starts × AreApart starts
-
-abbrev pub has_authority : Address → Address → Bool
-has_authority start other = bytes_eq (authority_of other) (authority_of start)
-
--- the same as a test
-abbrev pub none_shared : List Address → Bool
-none_shared [] = true
-none_shared (start ∷ starts) = not (list_any (has_authority start) starts) && none_shared starts
 
 -- Where the evaluation has its pages from: what each server has. The rows are the solutions over the union of their data, and the plan is that of a join over all of them, which asks row by row whatever the size of blocks.
 abbrev pub joint_sources : Sources

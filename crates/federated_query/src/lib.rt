@@ -11,8 +11,6 @@
 //! ```
 #![tactic(auto)]
 
-mod apart;
 mod call;
 
-pub use apart::are_apart;
 pub use call::federate;
