@@ -11,11 +11,21 @@ use text_base::Text;
 
 /// A query with groups: the steps of its group, the names in it, those that are selected, and whether each
 /// row stands once. Each name in it has a text, and each fixed part is a valid term and no blank node.
-#[derive(Drop)]
 pub struct GroupQuery {
     steps: Vec<Step>,
     shown: Query,
     distinct: bool,
+}
+
+// Written out, so that who drops one calls this, and does not take it apart at each exit.
+impl Drop for GroupQuery {
+    fn drop(self) {
+        let GroupQuery {
+            steps: _steps,
+            shown: _shown,
+            distinct: _distinct,
+        } = self;
+    }
 }
 
 impl Model for GroupQuery {

@@ -20,10 +20,19 @@ use tpf_base::OutOfMemory;
 
 /// The forms of the servers that are asked, one or more, in the order of the servers. Contracts see
 /// them as their list.
-#[derive(Drop)]
 pub struct FormList {
     first: Form,
     others: Vec<Form>,
+}
+
+// Written out, so that who drops one calls this, and does not take it apart at each exit.
+impl Drop for FormList {
+    fn drop(self) {
+        let FormList {
+            first: _first,
+            others: _others,
+        } = self;
+    }
 }
 
 impl Model for FormList {

@@ -26,8 +26,8 @@ pub returns-in-Plain-clause-asks : goal.returns-in-Plain-clause-asks
 returns-in-Plain-clause-asks g c =
     let q = c.in-Plain.query in
     let read = plain_file _ _ _ c.in-Ok.query q c.in-Plain.is c.in-Ok.ensures.ok in
-    let e = c.query-in-Plain.ensures in
-    by_call (λ (result : Result Report AnswerFault). sums.ServerAsked (g.F.Shelf.state c.args.shelf.now) (g.F.Shelf.state c.read_query.new.shelf) (g.W.Wire.allows c.args.wire.now) (g.W.Wire.state c.args.wire.now) (g.W.Wire.state c.query-in-Plain.new.wire) (g.K.Sink.state c.args.out.now) (g.K.Sink.state c.query-in-Plain.new.out) c.args.name.now c.args.start.now c.args.options.now result) c.query-in-Plain.result _ c.answered.ensures.ok c.answered.ensures.err
+    let e = c.query.ensures in
+    by_call (λ (result : Result Report AnswerFault). sums.ServerAsked (g.F.Shelf.state c.args.shelf.now) (g.F.Shelf.state c.read_query.new.shelf) (g.W.Wire.allows c.args.wire.now) (g.W.Wire.state c.args.wire.now) (g.W.Wire.state c.query.new.wire) (g.K.Sink.state c.args.out.now) (g.K.Sink.state c.query.new.out) c.args.name.now c.args.start.now c.args.options.now result) c.query.result _ c.answered.ensures.ok c.answered.ensures.err
     (λ report is. let ended = rw is at e.ended in sums.Plain (asks_server _ _ c.args.name.now _ c.args.start.now c.args.options.now _ _ _ _ (Ok report)
     (record {
       q = q;
