@@ -1,4 +1,3 @@
-pub mod Firsts
 pub mod Fitting
 pub mod Lengths
 pub mod Orders
@@ -8,4 +7,3 @@ pub mod Patterns
 pub mod Places
 pub mod Fragments
 pub mod Merging
-pub mod Nested

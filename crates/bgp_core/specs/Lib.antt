@@ -4,7 +4,6 @@ pub mod Rows
 pub mod Instances
 pub mod Extends
 pub mod Fits
-pub mod Seen
 pub mod Laws
 pub mod Merging
 pub mod Pairs

@@ -1,16 +1,13 @@
 //! Basic graph patterns of SPARQL 1.1: what a pattern, a query and a row are, how a triple extends a
-//! row, and the solutions of a query over a plain list of triples. Every later evaluation is compared
-//! with these.
+//! row, and, as a definition, the solutions of a query over triples, with which every evaluation is compared.
 //!
-//! The solutions of a query over triples, the query being read by the parser above:
+//! A triple extends a row by a pattern, and each triple that does gives a row of its own:
 //!
 //! ```rust
-//! let Ok(query) = parse(alloc, text) else {
-//!     return Err(CaseFault::Row);
-//! };
-//! match solutions(alloc, triples, &query) {
-//!     Ok(rows) => rows_text(alloc, &query, rows.as_slice()),
-//!     Err(_) => Err(CaseFault::OutOfMemory),
+//! for triple in triples {
+//!     if let Some(next) = match_triple(alloc, pattern, &row, triple)? {
+//!         extend_all(alloc, triples, others, next, out)?;
+//!     }
 //! }
 //! ```
 #![tactic(auto)]
@@ -20,10 +17,8 @@ pub mod laws;
 mod matching;
 mod pattern;
 mod row;
-mod solve;
 
 pub use asking::{askable, bound_places, instance, instance_askable};
 pub use matching::{fits, match_triple};
 pub use pattern::{Part, Pattern, Query, copy_patterns};
 pub use row::Row;
-pub use solve::solutions;

@@ -4,7 +4,7 @@ ghost use Rattle.rdf_terms.specs.Triples.{IsRdfQuad};
 ghost use Rattle.triple_table.specs.Stored.{IsRange};
 
 use fragment_pages::page;
-use plain_fragments::plain_fragment;
+use plain_answers::plain_fragment;
 use rdf_terms::{Quad, Slots, Triple};
 use std::alloc::Global;
 use std::marker::Brand;

@@ -1,9 +1,9 @@
 // The solutions of a basic graph pattern.
 use crate::answers::rows_text;
-use bgp_core::solutions;
 use case_rows::{Case, CaseFault};
 use nquads_text::read_all;
 use pattern_parser::parse;
+use plain_answers::solutions;
 use rdf_terms::{Quad, Triple};
 use std::alloc::Global;
 

@@ -15,7 +15,7 @@ use Rattle.bgp_core.specs.declared.pattern.Pattern.{Pattern}
 use Rattle.bgp_core.specs.Queries.{IsValidPattern}
 use Rattle.pattern_parser.specs.Short.{IsShortPart, IsShortPattern, TermsAreShort}
 use Rattle.plan_laws.specs.Fitting.{IsAskablePart, IsAskable}
-use Rattle.generated_server.specs.Starts.{AreSmall, GeneratedAreSmall}
+use Rattle.data_servers.specs.Starts.{AreSmall, GeneratedAreSmall}
 use Rattle.query_command.specs.Limits.{FilesAreServable, GeneratedAreServable, QueriesAreAskable}
 
 abbrev IsShort : Quad → Type 0

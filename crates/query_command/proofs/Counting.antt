@@ -15,7 +15,7 @@ use Rattle.tpf_base.specs.Outside.{ShelfState}
 use Rattle.bgp_core.specs.Queries.{QueryData, IsValidPattern}
 use Rattle.loop_wire.specs.Looped.{Looped}
 use Rattle.fragment_server.specs.declared.server.FragmentServer.{FragmentServer}
-use Rattle.generated_server.specs.Starts.{StartsGenerated}
+use Rattle.data_servers.specs.Starts.{StartsGenerated}
 use Rattle.tpf_client.specs.declared.options.Options.{Options}
 use Rattle.tpf_client.specs.declared.options.Report.{Report}
 use Rattle.tpf_client.specs.declared.fault.ClientFault.{ClientFault}
@@ -28,7 +28,7 @@ use Rattle.data_files.specs.Queries.{HoldsQuery, IsOfQueryFile, QueryOutcome, Is
 use Rattle.data_files.proofs.Outcomes.{one_query}
 use Rattle.data_files.specs.Causes.{QueryDecides}
 use Rattle.data_files.proofs.Causes.{gives_query}
-use Rattle.file_server.specs.Servers.{serving}
+use Rattle.data_servers.specs.Servers.{serving}
 use Rattle.page_responses.specs.Serving as core
 use Rattle.triple_table.specs.Stored.{Stored, triples_in}
 use Rattle.answer_faults.specs.declared.fault.AnswerFault.{AnswerFault}

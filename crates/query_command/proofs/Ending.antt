@@ -9,7 +9,7 @@ use Rattle.tpf_base.specs.Marks.{Served}
 use Rattle.template_fill.specs.Metadata.{Config}
 use Rattle.loop_wire.specs.Looped.{Looped, CountsDue, FewFaults, every_of}
 use Rattle.fragment_server.specs.declared.server.FragmentServer.{FragmentServer}
-use Rattle.file_server.specs.Servers.{serving}
+use Rattle.data_servers.specs.Servers.{serving}
 use Rattle.plan_laws.specs.Fitting.{IsRead}
 use Rattle.tpf_client.specs.declared.options.Options.{Options}
 use Rattle.tpf_client.specs.declared.options.Report.{Report}

@@ -15,7 +15,7 @@ use Rattle.group_parser.specs.declared.reading.Asked.TheVariants.{Plain, Groups}
 use Rattle.loop_wire.specs.Looped.{Looped}
 use Rattle.fragment_server.specs.declared.server.FragmentServer.{FragmentServer}
 use Rattle.generated_data.specs.declared.limits.TheConstants.{MOST_PERSONS}
-use Rattle.generated_server.specs.Starts.{StartsGenerated}
+use Rattle.data_servers.specs.Starts.{StartsGenerated}
 use Rattle.plan_laws.specs.Fitting.{AreServable, PlansAreRead, StartsAreRead}
 use Rattle.tpf_client.specs.declared.options.Options.{Options}
 use Rattle.tpf_client.specs.declared.options.Report.{Report}
@@ -27,7 +27,7 @@ use Rattle.data_files.specs.Queries.{IsOfQueryFile, IsOfGroupFile, IsOfAskedFile
 use Rattle.data_files.specs.Kept.{ReadsNamed}
 use Rattle.data_files.specs.Causes.{DataDecides, QueryDecides}
 use Rattle.data_files.proofs.Outcomes.{one_outcome, one_query}
-use Rattle.file_server.specs.Servers.{Starts, serving}
+use Rattle.data_servers.specs.Servers.{Starts, serving}
 use Rattle.answer_faults.specs.declared.fault.AnswerFault.TheVariants as faults
 use Rattle.answer_faults.specs.declared.fault.Counts.{Counts}
 use Rattle.query_command.specs.declared.local_query.OverWire.{OverWire}

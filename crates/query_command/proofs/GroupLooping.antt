@@ -24,7 +24,7 @@ use Rattle.tpf_client.specs.Honest.{IsHonestWire}
 use Rattle.tpf_client.specs.Offers.{publisher}
 use Rattle.tpf_client.specs.Plans.{OverHonest, RisesFew, PlanFits, MayStill}
 use Rattle.tpf_client.specs.Sinks.{LeavesSink}
-use Rattle.file_server.specs.Servers.{serving}
+use Rattle.data_servers.specs.Servers.{serving}
 use Rattle.query_command.specs.Loops.{LoopsServer, allows_of, wire_of, begun, local_base}
 use Rattle.query_command.specs.Groups.{WritesGroupOver, FailsGroupOver, WritesGroupAnswer, WritesGroupAnswerFront, WritesGroupLooped, FailsGroupLooped, EndsGroupOver, CountsGroupOver, AsksGroupPlan, AnswersGroupPlan, group_plan_of, group_offer_of}
 use Rattle.query_command.specs.Over.{AreValidBlocks, AreAskableBlocks, AsksGroups}

@@ -18,7 +18,7 @@ use Rattle.tpf_client.specs.declared.options.Report.{Report}
 use Rattle.tpf_client.specs.Calls.{solutions_of}
 use Rattle.tpf_client.specs.Offers.{publisher, offer_in_blocks}
 use Rattle.tpf_client.specs.Honest.{IsHonestWire, WritesSolutions, WritesSolutionsFront}
-use Rattle.file_server.specs.Servers.{serving}
+use Rattle.data_servers.specs.Servers.{serving}
 use Rattle.query_command.specs.Loops.{LoopsServer, LeavesHonest, WiresAreHonest, allows_of, wire_of, begun, WritesAnswer, WritesAnswerFront}
 
 -- ---- the wire

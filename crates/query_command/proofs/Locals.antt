@@ -23,7 +23,7 @@ use Rattle.data_files.specs.Data.{Files, IfTold, served}
 use Rattle.data_files.specs.Queries.{IsOfQueryFile, HasQueryFault, reads}
 use Rattle.data_files.proofs.Outcomes.{one_outcome, one_query}
 use Rattle.data_files.specs.Causes.{QueryCause}
-use Rattle.file_server.specs.Servers.{Starts, serving}
+use Rattle.data_servers.specs.Servers.{Starts, serving}
 use Rattle.data_files.specs.Kept.{KeepsShelf}
 use Rattle.query_command.specs.declared.local_query.OverWire.{OverWire}
 use Rattle.query_command.specs.Blocks.{in_blocks, grammar_of}

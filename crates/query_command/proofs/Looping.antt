@@ -21,7 +21,7 @@ use Rattle.tpf_client.specs.Ended.{FailsShown}
 use Rattle.tpf_client.specs.Still.{SucceedsStill}
 use Rattle.tpf_client.specs.Honest.{IsHonestWire, WritesSolutions, WritesSolutionsFront}
 use Rattle.tpf_client.specs.Plans.{OverHonest, RisesFew, PlanFits, MayStill}
-use Rattle.file_server.specs.Servers.{serving}
+use Rattle.data_servers.specs.Servers.{serving}
 use Rattle.page_responses.specs.Serving as core
 use Rattle.query_command.specs.Answers.{WritesOver, FailsOver}
 use Rattle.query_command.specs.Loops.{LoopsServer, WritesAnswer, WritesAnswerFront, allows_of, wire_of, begun}

@@ -14,7 +14,7 @@ use Rattle.pool_laws.specs.Answers.{HasLongBody}
 use Rattle.pool_laws.specs.Requested.{over_links, whole_requests}
 use Rattle.loop_wire.specs.Looped.{Looped, CountsDue}
 use Rattle.fragment_server.specs.declared.server.FragmentServer.{FragmentServer}
-use Rattle.file_server.specs.Servers.{serving}
+use Rattle.data_servers.specs.Servers.{serving}
 use Rattle.tpf_client.specs.declared.options.Options.{Options}
 use Rattle.tpf_client.specs.declared.options.Report.{Report}
 use Rattle.tpf_client.specs.declared.fault.ClientFault.{ClientFault}

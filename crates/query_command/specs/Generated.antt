@@ -12,7 +12,7 @@ use Rattle.triple_table.specs.Served.{IsServed}
 use Rattle.loop_wire.specs.Looped.{Looped}
 use Rattle.fragment_server.specs.declared.server.FragmentServer.{FragmentServer}
 use Rattle.generated_data.specs.Generated.{generated}
-use Rattle.generated_server.specs.Starts.{StartsGenerated}
+use Rattle.data_servers.specs.Starts.{StartsGenerated}
 use Rattle.tpf_client.specs.declared.options.Options.{Options}
 use Rattle.tpf_client.specs.declared.options.Report.{Report}
 use Rattle.tpf_client.specs.declared.fault.ClientFault.{ClientFault}
@@ -23,7 +23,7 @@ use Rattle.data_files.specs.declared.query.Grammar.TheVariants as grammars
 use Rattle.data_files.specs.Data.{Files}
 use Rattle.data_files.specs.Queries.{IsOfQueryFile}
 use Rattle.data_files.specs.Causes.{QueryCause}
-use Rattle.file_server.specs.Servers.{serving}
+use Rattle.data_servers.specs.Servers.{serving}
 use Rattle.answer_faults.specs.declared.fault.AnswerFault.{AnswerFault}
 use Rattle.answer_faults.specs.declared.fault.AnswerFault.TheVariants as faults
 use Rattle.answer_faults.specs.declared.fault.Counts.{Counts}

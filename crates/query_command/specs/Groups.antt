@@ -37,7 +37,7 @@ use Rattle.data_files.specs.Data.{Files, IsOfFile}
 use Rattle.data_files.specs.Queries.{IsOfGroupFile, reads_groups}
 use Rattle.data_files.specs.Kept.{ReadsNamed}
 use Rattle.data_files.specs.Causes.{DataDecides, QueryDecides}
-use Rattle.file_server.specs.Servers.{serving}
+use Rattle.data_servers.specs.Servers.{serving}
 use Rattle.answer_faults.specs.declared.fault.AnswerFault.{AnswerFault}
 use Rattle.answer_faults.specs.declared.fault.AnswerFault.TheVariants as faults
 use Rattle.answer_faults.specs.declared.fault.Counts.{Counts}

@@ -30,7 +30,7 @@ use Rattle.tpf_client.specs.Honest.{IsHonestWire}
 use Rattle.data_files.specs.Data.{Files, IsOfFile, Outcome, served}
 use Rattle.data_files.specs.Queries.{IsOfQueryFile}
 use Rattle.data_files.specs.Causes.{DataCause, QueryCause, Gives}
-use Rattle.file_server.specs.Servers.{Starts, serving}
+use Rattle.data_servers.specs.Servers.{Starts, serving}
 use Rattle.answer_faults.specs.declared.fault.AnswerFault.{AnswerFault}
 use Rattle.answer_faults.specs.declared.fault.AnswerFault.TheVariants as faults
 use Rattle.query_command.specs.declared.local_query.LocalQuery as declared_local

@@ -15,7 +15,7 @@ use Rattle.tpf_client.specs.declared.fault.ClientFault.{ClientFault}
 use Rattle.tpf_client.specs.declared.fault.ClientFault.TheVariants as client_faults
 use Rattle.tpf_client.specs.Bounds.{SuitsCalls}
 use Rattle.data_files.specs.Kept.{KeepsSink}
-use Rattle.file_server.specs.Servers.{serving}
+use Rattle.data_servers.specs.Servers.{serving}
 use Rattle.answer_faults.specs.declared.fault.Counts.{Counts}
 use Rattle.query_command.specs.declared.local_query.OverWire.{OverWire}
 use Rattle.query_command.specs.Loops.{LoopsServer, LeavesHonest, local_base}

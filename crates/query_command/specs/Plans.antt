@@ -25,7 +25,7 @@ use Rattle.tpf_client.specs.Plans.{HasLongPage, IsSmallByAll}
 use Rattle.tpf_client.specs.Requested.{AnswersPlan}
 use Rattle.data_files.specs.Data.{Files, IfTold, Serves}
 use Rattle.data_files.specs.Queries.{HoldsQuery, IsOfQueryFile}
-use Rattle.file_server.specs.Servers.{serving}
+use Rattle.data_servers.specs.Servers.{serving}
 use Rattle.answer_faults.specs.declared.fault.AnswerFault.{AnswerFault}
 use Rattle.answer_faults.specs.declared.fault.AnswerFault.TheVariants as faults
 use Rattle.answer_faults.specs.declared.fault.Counts.{Counts}

@@ -3,14 +3,14 @@ ghost use Rattle.std.specs.Prelude.{◌≤◌, ◌<◌, ◌^◌, length};
 ghost use Rattle.std.specs.List.{AllByRecursion};
 ghost use Rattle.rdf_terms.specs.declared.limits.TheConstants.{MOST_ROWS};
 ghost use Rattle.bgp_core.specs.Queries.{IsValidPattern};
-ghost use Rattle.file_server.specs.Servers.{serving};
+ghost use Rattle.data_servers.specs.Servers.{serving};
 ghost use Rattle.query_command.specs.Limits.{FilesAreServable, GeneratedAreServable, QueriesAreAskable, GroupsAreAskable};
 ghost use Rattle.query_command.specs.Loops.{WiresAreHonest};
 ghost use Rattle.query_command.specs.Over.{IsValidStep, AreValidBlocks};
 
 use bgp_core::Pattern;
+use data_servers::laws::generated_data_are_small;
 use fragment_server::FragmentServer;
-use generated_server::laws::generated_data_are_small;
 use group_query::{GroupQuery, Step};
 use nquads_text::laws::what_is_read_is_readable;
 use pattern_parser::laws::terms_are_short;

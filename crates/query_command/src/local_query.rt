@@ -3,7 +3,7 @@ ghost use Rattle.std.specs.Prelude.{◌≡◌, ◌<◌, ◌≤◌, ◌^◌, true
 ghost use Rattle.std.specs.List.{AllByRecursion};
 ghost use Rattle.template_fill.specs.declared.limits.TheConstants.{LARGEST_PAGE};
 ghost use Rattle.data_files.specs.Kept.{KeepsSink};
-ghost use Rattle.file_server.specs.Servers.{serving};
+ghost use Rattle.data_servers.specs.Servers.{serving};
 ghost use Rattle.plan_laws.specs.Fitting.{AreServable, IsAskable};
 ghost use Rattle.tpf_client.specs.Bounds.{SuitsCalls};
 ghost use Rattle.tpf_client.specs.Requested.{AnswersPlan};
@@ -20,7 +20,7 @@ use crate::start::{config_of, local_start};
 use answer_faults::AnswerFault;
 use bgp_core::Query;
 use data_files::{DataFault, read_query};
-use file_server::server_of_file;
+use data_servers::server_of_file;
 use fragment_server::{FragmentConnection, FragmentServer};
 use group_parser::Asked;
 use loop_wire::LoopWire;

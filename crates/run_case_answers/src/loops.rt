@@ -3,7 +3,7 @@ use crate::door::WithDoor;
 use crate::faults::{Numbered, failures};
 use crate::wires::Over;
 use case_rows::{Case, CaseFault};
-use file_server::server_of_file;
+use data_servers::server_of_file;
 use fragment_server::{FragmentConnection, FragmentServer};
 use hydra_controls::Config;
 use loop_wire::{Behind, LoopWire, Several};

@@ -32,8 +32,8 @@ use Rattle.data_files.specs.Kept.{KeepsShelf, ReadsNamed, AsksOnly, KeepsSink}
 use Rattle.data_files.specs.KeptLaws.{shelf_both, reads_keep, sink_none, only_once, only_both}
 use Rattle.data_files.specs.Causes.{DataCause, DataDecides}
 use Rattle.data_files.proofs.Outcomes.{one_outcome}
-use Rattle.file_server.specs.Servers.{Starts}
-use Rattle.file_server.specs.Supplies.{IsFault, IsRefused, FailedReading, FileView, KeepsFile}
+use Rattle.data_servers.specs.Servers.{Starts}
+use Rattle.data_servers.specs.Supplies.{IsFault, IsRefused, FailedReading, FileView, KeepsFile}
 use Rattle.serve_command.specs.declared.fault.ServiceFault.{ServiceFault}
 use Rattle.serve_command.specs.declared.fault.ServiceFault.TheVariants as faults
 use Rattle.serve_command.specs.Services.{LeavesAsBefore, Services, EndsService, ServesLinks, ServesServer, ServesFile, SaysReady, IsDataServed, MayFollow, FailedReload, FailedShelf, SpeaksOfFile, SaysPrefixes, SaysWhole, LinksCause, DoorCause, ServiceCause, IsServing, GivesServed, TakesTurns, OpensAndTurns, answer_of, door_of}

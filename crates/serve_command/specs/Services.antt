@@ -24,8 +24,8 @@ use Rattle.data_files.specs.declared.fault.DataFault.TheVariants as data_faults
 use Rattle.data_files.specs.Data.{Files, IfTold, IsOfFile, Outcome, served}
 use Rattle.data_files.specs.Kept.{KeepsShelf, AsksOnly, KeepsSink}
 use Rattle.data_files.specs.Causes.{DataCause, DataDecides, Gives}
-use Rattle.file_server.specs.Servers.{Starts}
-use Rattle.file_server.specs.Supplies.{FailedReading}
+use Rattle.data_servers.specs.Servers.{Starts}
+use Rattle.data_servers.specs.Supplies.{FailedReading}
 use Rattle.serve_command.specs.declared.fault.ServiceFault.{ServiceFault}
 use Rattle.serve_command.specs.declared.fault.ServiceFault.TheVariants as faults
 use Rattle.serve_command.specs.declared.service.Service.{Service}

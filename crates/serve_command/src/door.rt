@@ -4,7 +4,7 @@ ghost use Rattle.std.specs.Io.KnownBytes.{Appends};
 ghost use Rattle.tpf_base.specs.Wrote.{AppendsPrefix};
 ghost use Rattle.tpf_base.specs.Calls.{OnlyListens};
 ghost use Rattle.data_files.specs.Kept.{KeepsSink};
-ghost use Rattle.file_server.specs.Servers.{serving};
+ghost use Rattle.data_servers.specs.Servers.{serving};
 ghost use Rattle.serve_command.specs.Services.{door_of, DoorCause, SayCause, SaysReady};
 
 use crate::ServiceFault;

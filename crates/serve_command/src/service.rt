@@ -6,15 +6,15 @@ ghost use Rattle.tpf_base.specs.Links.{listens};
 ghost use Rattle.template_fill.specs.Configurations.{IsConfig};
 ghost use Rattle.data_files.specs.Data.{IsOfFile};
 ghost use Rattle.data_files.specs.Kept.{KeepsShelf, AsksOnly, KeepsSink};
-ghost use Rattle.file_server.specs.Servers.{serving};
-ghost use Rattle.file_server.specs.Supplies.{FailedReading};
+ghost use Rattle.data_servers.specs.Servers.{serving};
+ghost use Rattle.data_servers.specs.Supplies.{FailedReading};
 ghost use Rattle.serve_command.specs.Services.{config_of, door_of, MayFollow, FailedReload, ServesLinks, ServesServer, ServesFile, IsOfData, answer_of};
 
 use crate::ServiceFault;
 use crate::config::config_of;
 use crate::door::begin;
 use connections::{NoSupply, Supply};
-use file_server::{FileSupply, server_of_file};
+use data_servers::{FileSupply, server_of_file};
 use fragment_server::{FragmentConnection, FragmentServer};
 use serve_loop::{ServeFault, Served, serve as serve_connections};
 use std::alloc::Global;

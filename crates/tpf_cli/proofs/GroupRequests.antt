@@ -8,7 +8,7 @@ use Rattle.tpf_client.specs.declared.options.Report.{Report}
 use Rattle.data_files.specs.Data.{served}
 use Rattle.data_files.specs.Queries.{reads_groups}
 use Rattle.data_files.proofs.Outcomes.{one_outcome, one_query}
-use Rattle.file_server.specs.Servers.{serving}
+use Rattle.data_servers.specs.Servers.{serving}
 use Rattle.query_command.specs.Blocks.{grammar_of}
 use Rattle.answer_faults.specs.declared.fault.AnswerFault.{AnswerFault}
 use Rattle.query_command.specs.Groups.{FileAsked, Plain, Groups, group_plan_of}

@@ -27,7 +27,7 @@ use Rattle.data_files.specs.Data.{Files, IfTold, served}
 use Rattle.data_files.specs.Queries.{HasQueryFault, reads_groups, refused}
 use Rattle.data_files.specs.Causes.{DataCause, QueryCause, QueryDecides}
 use Rattle.data_files.proofs.Outcomes.{one_outcome, one_query}
-use Rattle.file_server.specs.Servers.{serving}
+use Rattle.data_servers.specs.Servers.{serving}
 use Rattle.query_command.specs.Blocks.{grammar_of}
 use Rattle.answer_faults.specs.declared.fault.AnswerFault.{AnswerFault}
 use Rattle.answer_faults.specs.declared.fault.AnswerFault.TheVariants as answers

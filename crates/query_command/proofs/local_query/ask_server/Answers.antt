@@ -1,6 +1,6 @@
 -- The wire that was made is honest for its server.
 use Rattle.query_command.specs.Loops.{local_base}
-use Rattle.file_server.specs.Servers.{serving}
+use Rattle.data_servers.specs.Servers.{serving}
 use Rattle.query_command.proofs.Looping.{loops_ok, loops_err, solves, solves_front, valid_served, config_served, keeps}
 use Rattle.query_command.proofs.Honest.{honest_wire, loops_honest}
 use Rattle.query_command.proofs.Fitting.{plan_is_read}

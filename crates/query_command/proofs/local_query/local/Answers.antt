@@ -7,7 +7,7 @@ use Rattle.data_files.specs.declared.query.Grammar.{Grammar}
 use Rattle.data_files.specs.Causes.{DataCause, QueryCause}
 use Rattle.data_files.specs.Queries.{IsOfGroupFile}
 use Rattle.data_files.specs.KeptLaws.{reads_keep, sink_none}
-use Rattle.file_server.specs.Servers.{Starts, serving}
+use Rattle.data_servers.specs.Servers.{Starts, serving}
 use Rattle.tpf_client.specs.declared.options.Report.{Report}
 use Rattle.answer_faults.specs.declared.fault.AnswerFault.{AnswerFault}
 use Rattle.answer_faults.specs.declared.fault.AnswerFault.TheVariants as faults

@@ -5,7 +5,7 @@ use Rattle.tpf_base.specs.Addresses.{authority_of}
 use Rattle.tpf_base.specs.Outside.{AsksOnce}
 use Rattle.data_files.specs.KeptLaws.{reads_keep, only_once}
 use Rattle.data_files.specs.Causes.{DataCause, DataDecides}
-use Rattle.file_server.specs.Servers.{Starts, serving}
+use Rattle.data_servers.specs.Servers.{Starts, serving}
 use Rattle.serve_command.specs.Services.{GivesServed}
 use Rattle.serve_command.specs.declared.fault.ServiceFault.TheVariants as faults
 use Rattle.serve_command.proofs.Sentences.{serves_file, serves_none, serves_starved}

@@ -3,8 +3,8 @@ use Rattle.std.proofs.Common.{rules, ap, subst, ◌∙◌}
 use Rattle.tpf_base.specs.Addresses.{authority_of}
 use Rattle.data_files.specs.Data.{IsOfFile}
 use Rattle.data_files.specs.Kept.{KeepsShelf, AsksOnly}
-use Rattle.file_server.specs.Servers.{serving}
-use Rattle.file_server.specs.Supplies.{FailedReading}
+use Rattle.data_servers.specs.Servers.{serving}
+use Rattle.data_servers.specs.Supplies.{FailedReading}
 use Rattle.serve_command.specs.Services.{ServesLinks}
 use Rattle.serve_command.proofs.Sentences.{serves_links_from, ended_shelf, same_file, failed_reading, reading_of}
 use Rattle.serve_command.proofs.service.serve_again.Goals as goal

@@ -1,7 +1,7 @@
 -- What is said from the open door on is said from before it.
 use Rattle.std.proofs.Common.{inl, inr, ◌∙◌}
 use Rattle.data_files.specs.KeptLaws.{shelf_none, only_none}
-use Rattle.file_server.specs.Servers.{serving}
+use Rattle.data_servers.specs.Servers.{serving}
 use Rattle.serve_command.proofs.Sentences.{if_ok_map, prefixes_from, whole_from, none_given, door_cause, opens_and_turns, ends_from, says_from, older_none, on_ok_so}
 use Rattle.serve_command.proofs.service.serve_server.Goals as goal
 

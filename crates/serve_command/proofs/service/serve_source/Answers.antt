@@ -1,7 +1,7 @@
 -- What may follow, and why a reload fails, by whether there is the path of one.
 use Rattle.std.proofs.Common.{is_some, ap, sym, ◌∙◌}
 use Rattle.data_files.specs.KeptLaws.{shelf_none, only_none}
-use Rattle.file_server.specs.Servers.{serving}
+use Rattle.data_servers.specs.Servers.{serving}
 use Rattle.serve_command.proofs.Sentences.{serves_links_from, follows, reloads_by, reloads_none}
 use Rattle.serve_command.proofs.service.serve_source.Goals as goal
 

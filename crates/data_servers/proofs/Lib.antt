@@ -1,0 +1,4 @@
+pub mod Refused
+pub mod Readable
+pub mod Few
+pub mod Small

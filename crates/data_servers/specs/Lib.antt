@@ -1,0 +1,4 @@
+pub mod Supplies
+pub mod Servers
+pub mod Laws
+pub mod Starts

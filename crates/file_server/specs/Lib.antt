@@ -1,3 +1,0 @@
-pub mod Supplies
-pub mod Servers
-pub mod Laws

@@ -1,3 +1,0 @@
-pub mod Readable
-pub mod Few
-pub mod Small

@@ -1,5 +1,0 @@
-use Rattle.generated_server.proofs.Small.{generated_are_small}
-use Rattle.generated_server.proofs.laws.generated_data_are_small.Goals as goal
-
-pub returns : goal.returns
-returns c = generated_are_small c.authorities_are_short.ensures c.served_terms_are_short.ensures
