@@ -11,11 +11,11 @@ use template_fill::read_explicit;
 pub fn no_blank(slot: Slot) -> Result<Slot, CaseFault>
     ensures { IfOk result HasNoBlankSlot }
 {
-    match slot {
-        Slot::Any => Ok(Slot::Any),
+    match &slot {
         Slot::Fixed(Term::Blank(_)) => Err(CaseFault::Row),
-        Slot::Fixed(Term::Iri(iri)) => Ok(Slot::Fixed(Term::Iri(iri))),
-        Slot::Fixed(Term::Literal { form, kind }) => Ok(Slot::Fixed(Term::Literal { form, kind })),
+        Slot::Any => Ok(slot),
+        Slot::Fixed(Term::Iri(_)) => Ok(slot),
+        Slot::Fixed(Term::Literal { .. }) => Ok(slot),
     }
 }
 

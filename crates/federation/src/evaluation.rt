@@ -23,13 +23,25 @@ use tpf_base::OutOfMemory;
 /// page of one number of a fragment. The addresses of a round are handed out one by one, and its pages may come in any order, as
 /// may those of other rounds. When all pages of a round are there, the join takes them as one page: the triples that no page of
 /// the fragment before had, each once. A page is true where it is what each of the servers has at its address.
-#[derive(Drop)]
 pub struct Federation {
     join: RoundJoin,
     rounds: Vec<Gathering>,
     given: u64,
     awaited: u64,
     most: u64,
+}
+
+// Written out, so that who drops one calls this, and does not take it apart at each exit.
+impl Drop for Federation {
+    fn drop(self) {
+        let Federation {
+            join: _join,
+            rounds: _rounds,
+            given: _given,
+            awaited: _awaited,
+            most: _most,
+        } = self;
+    }
 }
 
 impl Model for Federation {

@@ -7,9 +7,15 @@ use template_fill::{Form, WebAddress};
 use tpf_base::OutOfMemory;
 
 /// The triples of a page, which contracts see as a list.
-#[derive(Drop)]
 pub struct TripleList {
     triples: Vec<Triple>,
+}
+
+// Written out, so that who drops one calls this, and does not take it apart at each exit.
+impl Drop for TripleList {
+    fn drop(self) {
+        let TripleList { triples: _triples } = self;
+    }
 }
 
 impl Model for TripleList {
@@ -40,7 +46,8 @@ impl TripleList {
     pub fn into_vec(self) -> Vec<Triple>
         ensures { result.items ≡ self }
     {
-        self.triples
+        let TripleList { triples } = self;
+        triples
     }
 }
 

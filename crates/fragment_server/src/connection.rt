@@ -11,9 +11,17 @@ use tpf_server::Connection;
 /// A connection of a server of fragments. What it means is `fragments`: its response is that of the
 /// definitions to the bytes that came, over the versions that were served when the heads among them
 /// were read.
-#[derive(Drop)]
 pub struct FragmentConnection {
     connection: Connection,
+}
+
+// Written out, so that who drops one calls this, and does not take it apart at each exit.
+impl Drop for FragmentConnection {
+    fn drop(self) {
+        let FragmentConnection {
+            connection: _connection,
+        } = self;
+    }
 }
 
 /// How a reload came out, in the words of the server's core.

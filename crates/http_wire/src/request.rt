@@ -32,7 +32,6 @@ fn search(held: &[u8], blank: usize, searched: usize) -> (usize, Option<usize>)
 /// Gives the heads of the requests of a connection, whose bytes come in pieces, cut at any places
 /// (RFC 9112, sections 2.2 and 3). Contracts see the bytes that are not yet given as heads, and the
 /// status of a refusal.
-#[derive(Drop)]
 pub struct RequestFeed {
     alloc: Global,
     bytes: Vec<u8>,
@@ -43,6 +42,20 @@ pub struct RequestFeed {
     /// No head of fewer bytes stands behind the empty lines.
     searched: usize,
     refused: Option<u16>,
+}
+
+// Written out, so that who drops one calls this, and does not take it apart at each exit.
+impl Drop for RequestFeed {
+    fn drop(self) {
+        let RequestFeed {
+            alloc: _alloc,
+            bytes: _bytes,
+            given: _given,
+            blank: _blank,
+            searched: _searched,
+            refused: _refused,
+        } = self;
+    }
 }
 
 impl Model for RequestFeed {

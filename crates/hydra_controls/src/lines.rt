@@ -23,7 +23,6 @@ use tpf_base::OutOfMemory;
 /// address of page 1 once, of which the other addresses are longer by a number.
 ///
 /// Contracts see it as the list of the quads.
-#[derive(Drop)]
 pub struct MetadataLines {
     base: WebAddress,
     first: WebAddress,
@@ -34,6 +33,22 @@ pub struct MetadataLines {
     version: u64,
     /// How many bytes all lines have.
     length: u128,
+}
+
+// Written out, so that who drops one calls this, and does not take it apart at each exit.
+impl Drop for MetadataLines {
+    fn drop(self) {
+        let MetadataLines {
+            base: _base,
+            first: _first,
+            fixed: _fixed,
+            number: _number,
+            last: _last,
+            count: _count,
+            version: _version,
+            length: _length,
+        } = self;
+    }
 }
 
 impl Model for MetadataLines {

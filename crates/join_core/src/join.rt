@@ -26,9 +26,15 @@ use tpf_base::OutOfMemory;
 /// node is a block of rows with the patterns that are still to be matched; its depth is the number
 /// of patterns that were. The deepest node is started first, and at most a window of nodes work at
 /// a time. It is the join in rounds (`RoundJoin`), of which each has one address.
-#[derive(Drop)]
 pub struct Join {
     join: RoundJoin,
+}
+
+// Written out, so that who drops one calls this, and does not take it apart at each exit.
+impl Drop for Join {
+    fn drop(self) {
+        let Join { join: _join } = self;
+    }
 }
 
 impl Model for Join {

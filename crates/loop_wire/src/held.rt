@@ -17,7 +17,6 @@ pub enum Side {
 
 /// What is held of a link. The bytes that were received are no part of it: they are a prefix of the
 /// response to those that were sent.
-#[derive(Drop)]
 pub struct HeldLink {
     host: Text,
     port: u16,
@@ -29,6 +28,24 @@ pub struct HeldLink {
     woken: bool,
     ended: bool,
     is_open: bool,
+}
+
+// Written out, so that who drops one calls this, and does not take it apart at each exit.
+impl Drop for HeldLink {
+    fn drop(self) {
+        let HeldLink {
+            host: _host,
+            port: _port,
+            sent: _sent,
+            received: _received,
+            stalls: _stalls,
+            stalled: _stalled,
+            ripe: _ripe,
+            woken: _woken,
+            ended: _ended,
+            is_open: _is_open,
+        } = self;
+    }
 }
 
 impl Model for HeldLink {

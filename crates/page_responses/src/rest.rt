@@ -123,13 +123,25 @@ impl PageTriples {
 
 /// The lines of a page that are left: the rest of the line that was begun, triples, and then the metadata
 /// from a place on. The text of a line is made when it is given.
-#[derive(Drop)]
 pub struct PageRest {
     snapshot: Snapshot,
     begun: Begun,
     triples: PageTriples,
     metadata: MetadataLines,
     next: usize,
+}
+
+// Written out, so that who drops one calls this, and does not take it apart at each exit.
+impl Drop for PageRest {
+    fn drop(self) {
+        let PageRest {
+            snapshot: _snapshot,
+            begun: _begun,
+            triples: _triples,
+            metadata: _metadata,
+            next: _next,
+        } = self;
+    }
 }
 
 impl Model for PageRest {

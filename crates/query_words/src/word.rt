@@ -15,7 +15,6 @@ use text_base::{OutOfMemory, Text};
 
 /// What a token says: its text without its marks and with its escapes resolved, or which word or
 /// mark it is.
-#[derive(Drop)]
 pub enum Value {
     /// An IRI, as it is written between `<` and `>`.
     Iri(Text),
@@ -68,11 +67,56 @@ pub enum Value {
     Carets,
 }
 
+// Written out, so that who drops one calls this, and does not take it apart at each exit.
+impl Drop for Value {
+    fn drop(self) {
+        match self {
+            Value::Iri(_iri) => {}
+            Value::Prefix(_prefix) => {}
+            Value::Prefixed(_a, _b) => {}
+            Value::Variable(_variable) => {}
+            Value::Label(_label) => {}
+            Value::Anonymous => {}
+            Value::Str(_str) => {}
+            Value::Tag(_tag) => {}
+            Value::Integer(_integer) => {}
+            Value::Decimal(_decimal) => {}
+            Value::Double(_double) => {}
+            Value::PrefixWord => {}
+            Value::SelectWord => {}
+            Value::WhereWord => {}
+            Value::True => {}
+            Value::False => {}
+            Value::TypeWord => {}
+            Value::DistinctWord => {}
+            Value::OptionalWord => {}
+            Value::UnionWord => {}
+            Value::OtherWord => {}
+            Value::OpenBrace => {}
+            Value::CloseBrace => {}
+            Value::Dot => {}
+            Value::Semicolon => {}
+            Value::Comma => {}
+            Value::Star => {}
+            Value::Carets => {}
+        }
+    }
+}
+
 /// What a token says, with the place of its first byte, counted from 0.
-#[derive(Drop)]
 pub struct Word {
     pub at: usize,
     pub value: Value,
+}
+
+// Written out, so that who drops one calls this, and does not take it apart at each exit.
+impl Drop for Word {
+    fn drop(self) {
+        let Word {
+            at: _at,
+            value: _value,
+        } = self;
+    }
 }
 
 #[tactic(auto, unfolding(crate::specs::Words::word_value))]

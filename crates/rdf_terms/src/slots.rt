@@ -13,11 +13,22 @@ pub enum Slot {
 }
 
 /// The three places of a triple pattern (Triple Pattern Fragments, "Fragments").
-#[derive(PartialEq, Eq, Drop)]
+#[derive(PartialEq, Eq)]
 pub struct Slots {
     pub subject: Slot,
     pub predicate: Slot,
     pub object: Slot,
+}
+
+// Written out, so that who drops one calls this, and does not take it apart at each exit.
+impl Drop for Slots {
+    fn drop(self) {
+        let Slots {
+            subject: _subject,
+            predicate: _predicate,
+            object: _object,
+        } = self;
+    }
 }
 
 impl Slot {

@@ -23,11 +23,24 @@ pub enum Kind {
 }
 
 /// A term of RDF (RDF 1.1 Concepts 3.1): an IRI, a blank node, or a literal with its lexical form.
-#[derive(Drop)]
 pub enum Term {
     Iri(IriText),
     Blank(Label),
     Literal { form: Text, kind: Kind },
+}
+
+// Written out, so that who drops one calls this, and does not take it apart at each exit.
+impl Drop for Term {
+    fn drop(self) {
+        match self {
+            Term::Iri(_iri) => {}
+            Term::Blank(_blank) => {}
+            Term::Literal {
+                form: _form,
+                kind: _kind,
+            } => {}
+        }
+    }
 }
 
 /// A generalized triple: any three terms (RDF 1.1 Concepts 7).

@@ -75,10 +75,19 @@ impl BlockSize {
 }
 
 /// Rows that are asked for together, one or more. Contracts see them as their list.
-#[derive(Drop)]
 pub struct RowBlock {
     first: Row,
     others: Vec<Row>,
+}
+
+// Written out, so that who drops one calls this, and does not take it apart at each exit.
+impl Drop for RowBlock {
+    fn drop(self) {
+        let RowBlock {
+            first: _first,
+            others: _others,
+        } = self;
+    }
 }
 
 impl Model for RowBlock {

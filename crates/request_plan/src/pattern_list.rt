@@ -11,9 +11,17 @@ use std::rc::Rc;
 use tpf_base::OutOfMemory;
 
 /// Patterns of a query, each shared by all lists that hold it. Contracts see them as their list.
-#[derive(Drop)]
 pub struct PatternList {
     patterns: Vec<Rc<Pattern>>,
+}
+
+// Written out, so that who drops one calls this, and does not take it apart at each exit.
+impl Drop for PatternList {
+    fn drop(self) {
+        let PatternList {
+            patterns: _patterns,
+        } = self;
+    }
 }
 
 impl Model for PatternList {

@@ -131,9 +131,15 @@ impl FormList {
 }
 
 /// Triples, each once. Contracts see them as their list in the order of triples.
-#[derive(Drop)]
 pub struct TripleSet {
     triples: BTreeSet<Triple>,
+}
+
+// Written out, so that who drops one calls this, and does not take it apart at each exit.
+impl Drop for TripleSet {
+    fn drop(self) {
+        let TripleSet { triples: _triples } = self;
+    }
 }
 
 impl Model for TripleSet {
@@ -179,11 +185,21 @@ impl TripleSet {
 /// Where there are several servers, the triples of the pages before stand beside the addresses,
 /// since a triple of one server may come again from another: they are shared by the copies of a
 /// round.
-#[derive(Drop)]
 pub struct Round {
     first: WebAddress,
     others: Vec<WebAddress>,
     taken: Option<Rc<TripleSet>>,
+}
+
+// Written out, so that who drops one calls this, and does not take it apart at each exit.
+impl Drop for Round {
+    fn drop(self) {
+        let Round {
+            first: _first,
+            others: _others,
+            taken: _taken,
+        } = self;
+    }
 }
 
 impl Model for Round {
@@ -263,7 +279,12 @@ impl Round {
         ensures addresses { self.addresses ≡ result.0 ∷ result.1.items }
         ensures taken { self.taken ≡ taken_of (option_map rc_value result.2) }
     {
-        (self.first, self.others, self.taken)
+        let Round {
+            first,
+            others,
+            taken,
+        } = self;
+        (first, others, taken)
     }
 
     /// The same addresses; the triples that came before are shared. The only error is out of memory.

@@ -23,12 +23,23 @@ use tpf_base::OutOfMemory;
 /// port 80 is not written, and the path is not empty (sections 6.2.2.1 and 6.2.3).
 ///
 /// Contracts see it by its parts, of which `address_text` gives the text.
-#[derive(Drop)]
 pub struct WebAddress {
     text: String,
     host_len: usize,
     authority_len: usize,
     port: u16,
+}
+
+// Written out, so that who drops one calls this, and does not take it apart at each exit.
+impl Drop for WebAddress {
+    fn drop(self) {
+        let WebAddress {
+            text: _text,
+            host_len: _host_len,
+            authority_len: _authority_len,
+            port: _port,
+        } = self;
+    }
 }
 
 impl Model for WebAddress {

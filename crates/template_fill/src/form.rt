@@ -14,7 +14,6 @@ use tpf_base::{OutOfMemory, Text};
 
 /// A form of a fragment's server (hydra:search): a template, and the names of the variables for the
 /// subject, the predicate and the object.
-#[derive(Drop)]
 pub struct Form {
     /// The template of the addresses of first pages.
     pub template: Template,
@@ -24,6 +23,18 @@ pub struct Form {
     pub predicate: Text,
     /// The name of the variable for the object.
     pub object: Text,
+}
+
+// Written out, so that who drops one calls this, and does not take it apart at each exit.
+impl Drop for Form {
+    fn drop(self) {
+        let Form {
+            template: _template,
+            subject: _subject,
+            predicate: _predicate,
+            object: _object,
+        } = self;
+    }
 }
 
 /// Adds the value of a place, if it is fixed.

@@ -25,11 +25,21 @@ pub enum Operator {
 }
 
 /// An expression of a template, and the text that follows it.
-#[derive(Drop)]
 pub struct Part {
     operator: Operator,
     names: Vec<Text>,
     literal: Text,
+}
+
+// Written out, so that who drops one calls this, and does not take it apart at each exit.
+impl Drop for Part {
+    fn drop(self) {
+        let Part {
+            operator: _operator,
+            names: _names,
+            literal: _literal,
+        } = self;
+    }
 }
 
 impl Model for Part {

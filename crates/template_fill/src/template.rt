@@ -18,10 +18,19 @@ use tpf_base::OutOfMemory;
 /// expressions `{?names}` and `{&names}` with texts of an address between them.
 ///
 /// Contracts see it by its parts.
-#[derive(Drop)]
 pub struct Template {
     start: WebAddress,
     parts: Vec<Part>,
+}
+
+// Written out, so that who drops one calls this, and does not take it apart at each exit.
+impl Drop for Template {
+    fn drop(self) {
+        let Template {
+            start: _start,
+            parts: _parts,
+        } = self;
+    }
 }
 
 impl Model for Template {

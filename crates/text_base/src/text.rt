@@ -9,9 +9,16 @@ use std::marker::Model;
 /// A text, which contracts see as its bytes of UTF-8.
 ///
 /// Texts are equal where their bytes are, and the order is that of the bytes.
-#[derive(Debug, Drop)]
+#[derive(Debug)]
 pub struct Text {
     string: String,
+}
+
+// Written out, so that who drops one calls this, and does not take it apart at each exit.
+impl Drop for Text {
+    fn drop(self) {
+        let Text { string: _string } = self;
+    }
 }
 
 impl Model for Text {
@@ -41,7 +48,8 @@ impl Text {
     pub fn into_string(self) -> String
         ensures { string_bytes result ≡ self }
     {
-        self.string
+        let Text { string } = self;
+        string
     }
 
     /// The text, whose bytes are always UTF-8.

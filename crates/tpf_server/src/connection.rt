@@ -33,7 +33,6 @@ use tpf_base::{ENOUGH_PENDING, OutOfMemory};
 ///
 /// Contracts see the bytes of which no head is made yet, what becomes of the heads that come, what is
 /// owed, the bytes that are pending, and whether it is out of memory (starved).
-#[derive(Drop)]
 pub struct Connection {
     alloc: Global,
     requests: RequestFeed,
@@ -44,6 +43,21 @@ pub struct Connection {
     /// How many of them were taken: at most half.
     given: usize,
     starved: bool,
+}
+
+// Written out, so that who drops one calls this, and does not take it apart at each exit.
+impl Drop for Connection {
+    fn drop(self) {
+        let Connection {
+            alloc: _alloc,
+            requests: _requests,
+            reading: _reading,
+            debt: _debt,
+            bytes: _bytes,
+            given: _given,
+            starved: _starved,
+        } = self;
+    }
 }
 
 /// The feed, or a new one that holds no memory: where nothing is held, and where nothing more is read.

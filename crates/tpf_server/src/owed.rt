@@ -22,10 +22,19 @@ use std::collections::VecDeque;
 use tpf_base::{ENOUGH_PENDING, OutOfMemory};
 
 /// What is owed on a connection.
-#[derive(Drop)]
 pub struct Debt {
     pub rest: Rest,
     pub waiting: VecDeque<Queued>,
+}
+
+// Written out, so that who drops one calls this, and does not take it apart at each exit.
+impl Drop for Debt {
+    fn drop(self) {
+        let Debt {
+            rest: _rest,
+            waiting: _waiting,
+        } = self;
+    }
 }
 
 /// The body, or nothing where the head alone is asked for.

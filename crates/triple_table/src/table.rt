@@ -24,12 +24,23 @@ use tpf_base::Steps;
 /// A term's id is its place, from 0, in the term dictionary: all terms of the data set, each once, in
 /// the order of terms. The table keeps one copy of each term, 4 bytes for its length, and 36 bytes for each
 /// triple.
-#[derive(Drop)]
 pub struct Table {
     pub(crate) terms: TermList,
     pub(crate) spo: Rows,
     pub(crate) pos: Rows,
     pub(crate) osp: Rows,
+}
+
+// Written out, so that who drops one calls this, and does not take it apart at each exit.
+impl Drop for Table {
+    fn drop(self) {
+        let Table {
+            terms: _terms,
+            spo: _spo,
+            pos: _pos,
+            osp: _osp,
+        } = self;
+    }
 }
 
 impl Model for Table {

@@ -12,7 +12,6 @@ use std::net::{Net, SocketAddr};
 use tpf_base::Text;
 
 /// The listener, and what the system said of it.
-#[derive(Drop)]
 pub struct Door {
     listener: TcpListener,
     // What it was asked to listen at.
@@ -25,6 +24,20 @@ pub struct Door {
     is_told: bool,
     // Whether the last accept found no file, buffer or memory for a connection.
     is_short: bool,
+}
+
+// Written out, so that who drops one calls this, and does not take it apart at each exit.
+impl Drop for Door {
+    fn drop(self) {
+        let Door {
+            listener: _listener,
+            host: _host,
+            port: _port,
+            may_come: _may_come,
+            is_told: _is_told,
+            is_short: _is_short,
+        } = self;
+    }
 }
 
 /// How many connections an accept passes over at most that were lost before it.

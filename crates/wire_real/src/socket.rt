@@ -73,7 +73,6 @@ enum Connection {
 }
 
 /// An open link.
-#[derive(Drop)]
 pub struct Socket {
     stream: TcpStream,
     connection: Connection,
@@ -84,6 +83,21 @@ pub struct Socket {
     // Whether the system told of it since a wait answered it.
     is_told: bool,
     pub account: Account,
+}
+
+// Written out, so that who drops one calls this, and does not take it apart at each exit.
+impl Drop for Socket {
+    fn drop(self) {
+        let Socket {
+            stream: _stream,
+            connection: _connection,
+            sending: _sending,
+            receiving: _receiving,
+            is_over: _is_over,
+            is_told: _is_told,
+            account: _account,
+        } = self;
+    }
 }
 
 /// What a call answers that failed so.

@@ -21,12 +21,22 @@ const EVENTS: usize = 256;
 pub const DOOR: Token = Token(usize::MAX);
 
 /// The links and the door that the system tells of, and those of which it told.
-#[derive(Drop)]
 pub struct Watch {
     poll: Poll,
     events: Events,
     // The open links of which the system told since a wait answered them, each once.
     told: VecDeque<u64>,
+}
+
+// Written out, so that who drops one calls this, and does not take it apart at each exit.
+impl Drop for Watch {
+    fn drop(self) {
+        let Watch {
+            poll: _poll,
+            events: _events,
+            told: _told,
+        } = self;
+    }
 }
 
 /// Takes in what the system says of a link. Whether it is open, and no wait answered it since the system told

@@ -11,5 +11,5 @@ returns c = record {
     alone = subst (λ (s : Slots). IsAddress (form_text c.args.form.now s) c.in_ok-address.field-0) c.in_ok-slots.ensures c.in_ok-address.ensures.address;
   };
   places = c.new.ensures.items;
-  length = let long = ap length c.target-2.ensures in omega (arith, long);
+  length = let long = ap length c.target.ensures in omega (arith, long);
 }
