@@ -1,4 +1,4 @@
--- The datatype of numbers, and bytes that are written as they are.
+-- Bytes that are written as they are.
 use Rattle.std.proofs.Common.{◌≡◌, ℕ, List, Bool, true, false, ◌==◌, refl, sym, ap, ◌∙◌}
 use Rattle.std.specs.List.{list_all}
 use Rattle.std.specs.Char.{is_ascii_digit}
@@ -8,25 +8,8 @@ use Rattle.list_laws.proofs.Tests.{and_first}
 use Rattle.tpf_base.specs.Decimals.{decimal_text}
 use Rattle.tpf_base.proofs.DecimalTexts.{decimal_text-digits}
 use Rattle.rdf_terms.specs.Iri.{is_iri, is_iri_byte, has_scheme}
-use Rattle.rdf_terms.specs.Datatype.{is_datatype, xsd_string, lang_string}
-use Rattle.template_fill.specs.Metadata.{integer}
 use Rattle.template_fill.proofs.Passing.{list_all-wider}
-use Rattle.hydra_controls.specs.declared.term_text.TermKind.TheVariants as kinds
-use Rattle.hydra_controls.specs.TermTexts.{is_plain_byte, term_as, xsd_integer}
-
-integer_is_datatype : is_datatype xsd_integer ≡ true
-unfolding xsd_string lang_string
-integer_is_datatype = refl
-
-pub is_datatype-is : (text : List ℕ) → text ≡ xsd_integer → is_datatype text ≡ true
-is_datatype-is text e = rw e integer_is_datatype
-
--- the literal of a number
-pub integer_is : (n : ℕ) → term_as kinds.Integer (decimal_text n) ≡ integer n
-unfolding integer xsd_string
-integer_is n = refl
-
--- ---- bytes
+use Rattle.hydra_controls.specs.LineTexts.{is_plain_byte}
 
 other_byte : (b n : ℕ) (same : Bool) → (b == n) ≡ same → is_iri_byte b ≡ true → is_iri_byte n ≡ false → (b == n) ≡ false
 other_byte b n true is own none = absurd (true≢false (sym own ∙ ap is_iri_byte (eqb-true b n is) ∙ none))

@@ -1,6 +1,5 @@
 pub mod CutLaws
 pub mod Iris
-pub mod Labels
 pub mod TermLaws
 pub mod TableLaws
 pub mod LineLaws

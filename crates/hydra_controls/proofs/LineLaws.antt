@@ -1,8 +1,7 @@
 -- The lines of a page's metadata: the quads that they are of, and what is written of them.
-use Rattle.std.proofs.Common.{◌≡◌, ℕ, ◌+◌, ◌-◌, ◌<◌, Bool, nat_lt, List, [], ◌∷◌, ◌++◌, length, take, drop, false, sym, ap, ap₂, subst, ◌∙◌, arith, append_assoc, append-nil, length-append}
+use Rattle.std.proofs.Common.{◌≡◌, ℕ, ◌+◌, ◌-◌, ◌<◌, Bool, nat_lt, List, [], ◌∷◌, ◌++◌, length, take, drop, false, sym, ap, subst, ◌∙◌, arith, append_assoc, append-nil, length-append}
 use Rattle.std.specs.Prelude.{codes, slice_index_or}
 use Rattle.std.proofs.lemmas.Bool.{le-ltb, lt-ltb}
-use Rattle.std.proofs.lemmas.List.{take_all, take_more}
 use Rattle.rdf_terms.specs.Canon.{canonical_line}
 use Rattle.rdf_terms.specs.Fragments.{last_page_of}
 use Rattle.rdf_terms.specs.declared.term.Quad.{Quad}
@@ -84,9 +83,6 @@ lines_are config s k count version last base first fixed of_base of_first of_fix
 
 -- ---- one line
 
-pub placed : (quads value : List Quad) (i : ℕ) (d q : Quad) → quads ≡ value → slice_index_or quads i d ≡ q → slice_index_or value i d ≡ q
-placed quads value i d q same is = ap (λ (l : List Quad). slice_index_or l i d) (sym same) ∙ is
-
 pub within : (quads value : List Quad) (i : ℕ) → quads ≡ value → i < length value → i < length quads
 within quads value i same h = subst (λ (l : List Quad). i < length l) (sym same) h
 
@@ -102,16 +98,3 @@ pub part_appended : (from most : ℕ) (before after : Cut) (old new text line : 
 part_appended from most before after old new text line begun written is =
     let own = cut_is from most text old new after (subst (λ (c : Cut). Cuts c after text old new) begun written) in
     (own.0 ∙ ap (λ (l : List ℕ). old ++ take most (drop from l)) (sym is), own.1 ∙ ap (λ (l : List ℕ). nat_lt most (length l - from)) (sym is))
-
--- a part as long as the line is the line
-pub whole_appended : (room : ℕ) (line old mid new : List ℕ) → room ≡ length line → mid ≡ old → new ≡ mid ++ take room (drop 0 line) → new ≡ old ++ line
-whole_appended room line old mid new is kept appended =
-    appended ∙ ap₂ (λ (l : List ℕ) (n : ℕ). l ++ take n line) kept is ∙ ap (λ (l : List ℕ). old ++ l) (take_all (length line) line (omega arith))
-
--- one quad more was made
-pub quad_pushed : (value before after : List Quad) (i : ℕ) (q made d : Quad) → slice_index_or value i d ≡ made → q ≡ made → after ≡ before ++ q ∷ [] → after ≡ before ++ slice_index_or value i d ∷ []
-quad_pushed value before after i q made d at same pushed = pushed ∙ ap (λ (x : Quad). before ++ x ∷ []) (same ∙ sym at)
-
-pub quad_taken : (value before after : List Quad) (i : ℕ) (d : Quad) → i < length value → before ≡ take i value → after ≡ before ++ slice_index_or value i d ∷ [] → after ≡ take (i + 1) value
-quad_taken value before after i d h is pushed =
-    pushed ∙ ap (λ (l : List Quad). l ++ slice_index_or value i d ∷ []) is ∙ sym (take_more value i d h)

@@ -4,14 +4,15 @@ use Rattle.std.specs.Prelude.{codes, slice_index_or}
 use Rattle.std.specs.List.{list_all}
 use Rattle.list_laws.proofs.Each.{all_joined}
 use Rattle.rdf_terms.specs.Canon.{canonical_form, canonical_line, canonical_term}
+use Rattle.rdf_terms.specs.Datatype.{xsd_string}
 use Rattle.rdf_terms.specs.Iri.{is_iri}
 use Rattle.rdf_terms.specs.declared.term.Quad.{Quad}
 use Rattle.rdf_terms.specs.declared.term.Term.{Term}
 use Rattle.rdf_terms.specs.declared.term.Term.TheVariants.{Blank, Iri}
 use Rattle.tpf_base.specs.Decimals.{decimal_text}
 use Rattle.template_fill.specs.Metadata.{hydra, integer, plain, statement}
-use Rattle.hydra_controls.specs.TermTexts.{is_plain_byte}
-use Rattle.hydra_controls.proofs.Iris.{decimal-plain, integer_is, iri-plain}
+use Rattle.hydra_controls.specs.LineTexts.{is_plain_byte}
+use Rattle.hydra_controls.proofs.Iris.{decimal-plain, iri-plain}
 use Rattle.hydra_controls.proofs.TermLaws.{form_is}
 
 -- the end of each line: what stands behind the text of the graph
@@ -67,7 +68,8 @@ pub iri_stands : (b : List ℕ) → canonical_term (Iri b) ≡ (60 ∷ []) ++ (b
 iri_stands b = refl
 
 pub count_stands : (n : ℕ) → canonical_term (integer n) ≡ (34 ∷ []) ++ (decimal_text n ++ codes "\"^^<http://www.w3.org/2001/XMLSchema#integer>")
-count_stands n = ap (λ (t : Term). canonical_term t) (sym (integer_is n)) ∙ ap (λ (l : List ℕ). 34 ∷ (l ++ codes "\"^^<http://www.w3.org/2001/XMLSchema#integer>")) (form_is (decimal_text n) (decimal-plain n))
+unfolding integer xsd_string
+count_stands n = ap (λ (l : List ℕ). 34 ∷ (l ++ codes "\"^^<http://www.w3.org/2001/XMLSchema#integer>")) (form_is (decimal_text n) (decimal-plain n))
 
 pub digits_stand : (n : ℕ) → canonical_term (plain (decimal_text n)) ≡ (34 ∷ []) ++ (decimal_text n ++ 34 ∷ [])
 digits_stand n = ap (λ (l : List ℕ). 34 ∷ (l ++ 34 ∷ [])) (form_is (decimal_text n) (decimal-plain n))

@@ -1,19 +1,12 @@
--- Texts of terms and lines, from the parts that they are written with.
-use Rattle.std.proofs.Common.{◌≡◌, ℕ, ◌+◌, List, [], ◌∷◌, ◌++◌, Bool, true, false, not, ◌&&◌, length, Result, Ok, Err, refl, ap, ◌∙◌, arith, length-append, if◌then◌else◌}
-use Rattle.std.specs.Prelude.{IfOk, Some}
+-- Texts of literals and lines, from the parts that they are written with.
+use Rattle.std.proofs.Common.{◌≡◌, ℕ, ◌+◌, List, [], ◌∷◌, ◌++◌, Bool, true, false, not, ◌&&◌, length, refl, ap, arith, length-append, if◌then◌else◌}
 use Rattle.std.specs.List.{list_all}
-use Rattle.rdf_terms.specs.declared.term.Term.{Term}
-use Rattle.rdf_terms.specs.declared.term.Quad.{Quad}
-use Rattle.rdf_terms.specs.declared.term.Triple.{Triple}
 use Rattle.rdf_terms.specs.Canon.{after_mark, canonical_form, is_marked}
 use Rattle.hydra_controls.specs.declared.cut.Cut.{Cut}
 use Rattle.hydra_controls.specs.declared.line_text.LineText.{LineText}
-use Rattle.hydra_controls.specs.declared.quad_text.QuadText.{QuadText}
-use Rattle.hydra_controls.specs.declared.term_text.TermText.{TermText}
 use Rattle.hydra_controls.specs.declared.text_parts.TextParts.{TextParts}
 use Rattle.hydra_controls.specs.Cuts.{Cuts}
-use Rattle.hydra_controls.specs.LineTexts.{digits_of, text_of, text_of_line}
-use Rattle.hydra_controls.specs.TermTexts.{is_plain_byte, quad_of, term_as, term_of}
+use Rattle.hydra_controls.specs.LineTexts.{digits_of, is_plain_byte, text_of, text_of_line}
 use Rattle.hydra_controls.proofs.CutLaws.{cuts_same, cuts_then}
 
 -- ---- forms
@@ -26,22 +19,6 @@ plain_step false all b after xs ys plain same = ap (λ (l : List ℕ). b ∷ l) 
 pub form_is : (form : List ℕ) → list_all is_plain_byte form ≡ true → canonical_form form ≡ form
 form_is [] plain = refl
 form_is (b ∷ form) plain = plain_step (is_marked b) (list_all is_plain_byte form) b (after_mark b) (canonical_form form) form plain (form_is form)
-
--- ---- terms
-
-pub term_is : {E : Type 0} (t : TermText) (text : List ℕ) (r : Result Term E) → text ≡ text_of t.text → IfOk r (λ term. term ≡ term_as t.kind text) → IfOk r (λ term. term ≡ term_of t)
-unfolding term_of
-term_is t text (Ok term) is made = made ∙ ap (term_as t.kind) is
-term_is t text (Err e) is made = tt
-
-pub triple_is : (q : QuadText) (s p o : Term) → s ≡ term_of q.subject → p ≡ term_of q.predicate → o ≡ term_of q.object
-    → (let triple : Triple = record { subject = s; predicate = p; object = o } in triple ≡ (quad_of q).triple)
-unfolding quad_of
-triple_is q s p o es ep eo = λ i. record { subject = es i; predicate = ep i; object = eo i }
-
-pub quad_is : (q : QuadText) (t : Triple) (g : Term) → t ≡ (quad_of q).triple → g ≡ term_of q.graph → (let quad : Quad = record { triple = t; graph = Some g } in quad ≡ quad_of q)
-unfolding quad_of
-quad_is q t g et eg = λ i. record { triple = et i; graph = Some (eg i) }
 
 -- ---- four parts
 

@@ -1,4 +1,3 @@
-pub mod TermTexts
 pub mod LineTexts
 pub mod Facts
 pub mod Laws

@@ -1,6 +1,6 @@
 -- Lines by the texts that they are written with.
-use Rattle.std.specs.Prelude.{ℕ, ◌≡◌, List, [], ◌++◌, Option, Some, None, slice_index_or}
-use Rattle.rdf_terms.specs.Canon.{canonical_line}
+use Rattle.std.specs.Prelude.{ℕ, ◌≡◌, Bool, not, List, [], ◌++◌, Option, Some, None, slice_index_or}
+use Rattle.rdf_terms.specs.Canon.{canonical_line, is_marked}
 use Rattle.rdf_terms.specs.declared.term.Quad.{Quad}
 use Rattle.tpf_base.specs.Decimals.{decimal_text}
 use Rattle.hydra_controls.specs.declared.line_text.LineText.{LineText}
@@ -22,3 +22,7 @@ text_of_line l = l.opening.now ++ (text_of l.subject ++ (text_of l.object ++ tex
 -- the canonical line of the quad in place i of a list is this text
 abbrev pub IsLineAt : List Quad → ℕ → List ℕ → Type 0
 IsLineAt quads i text = (d : Quad) → canonical_line (slice_index_or quads i d) ≡ text
+
+-- a byte of a literal's form that is written without a backslash
+abbrev pub is_plain_byte : ℕ → Bool
+is_plain_byte b = not (is_marked b)

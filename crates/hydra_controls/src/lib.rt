@@ -19,12 +19,12 @@ mod line_table;
 mod line_text;
 mod lines;
 mod pages;
-mod quad_text;
-mod term_text;
 mod text_parts;
 mod whole;
 
 pub use config::Config;
 pub use cut::Cut;
+pub use facts::PageFacts;
 pub use lines::MetadataLines;
-pub use pages::{address, metadata};
+pub use pages::address;
+pub use text_parts::TextParts;

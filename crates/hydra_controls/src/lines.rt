@@ -1,5 +1,5 @@
 // The lines of a page's metadata, each made when it is written.
-ghost use Rattle.std.specs.Prelude.{◌≡◌, ◌≤◌, ◌<◌, ◌*◌, ◌^◌, [], ◌∷◌, ◌++◌, length, take, drop, nat_lt, slice_index_or, IfOk, OnOk, OnErr};
+ghost use Rattle.std.specs.Prelude.{◌≡◌, ◌≤◌, ◌<◌, ◌*◌, ◌^◌, ◌++◌, length, take, drop, nat_lt, IfOk, OnOk, OnErr};
 ghost use Rattle.std.specs.List.{AllByRecursion};
 ghost use Rattle.rdf_terms.specs.declared.term.Quad.{Quad};
 ghost use Rattle.list_laws.specs.Begins.{Begins};
@@ -13,7 +13,7 @@ use crate::Config;
 use crate::cut::Cut;
 use crate::facts::PageFacts;
 use crate::pages::{address, last_page};
-use rdf_terms::{Quad, Slots};
+use rdf_terms::Slots;
 use std::alloc::Global;
 use std::marker::Model;
 use template_fill::WebAddress;
@@ -99,20 +99,6 @@ fn facts_of<'a>(
     }
 }
 
-/// Makes room for so many bytes more at once, so that a line of any length is copied once.
-fn make_room(length: u128, out: &mut Vec<u8>) -> Result<usize, OutOfMemory>
-    ensures room { IfOk result (λ room. room ≡ length) }
-    ensures same { out.new.items ≡ out.old.items }
-{
-    match usize::try_from(length) {
-        Ok(room) => {
-            out.reserve(room)?;
-            Ok(room)
-        }
-        Err(_) => Err(OutOfMemory),
-    }
-}
-
 /// Takes back what was appended since `out` had this length, where the writing failed.
 #[tactic(auto, using(list_laws::proofs::Begins::cut_back))]
 fn taken_back<T>(
@@ -170,7 +156,7 @@ impl MetadataLines {
     }
 
     /// What the lines speak of.
-    fn facts(&self) -> PageFacts<'_>
+    pub fn facts(&self) -> PageFacts<'_>
         ensures quads { quads_of result ≡ self.now }
         ensures facts { AreFacts result }
     {
@@ -242,18 +228,6 @@ impl MetadataLines {
         taken_back(written, before, out)
     }
 
-    /// Appends the line in this place, its end LF with it (N-Quads, canonical form). After
-    /// `OutOfMemory`, which comes only when memory ran out, `out` is as before.
-    pub fn write(&self, i: usize, out: &mut Vec<u8>) -> Result<(), OutOfMemory>
-        requires { i < length self.now }
-        ensures ok { (d : Quad) → OnOk result (out.new.items ≡ out.old.items ++ line_in self.now i d) }
-        ensures err { OnErr result (out.new.items ≡ out.old.items) }
-    {
-        let room = make_room(self.length(i), out)?;
-        self.write_part(i, 0, room, out)?;
-        Ok(())
-    }
-
     /// How many bytes all lines have, their ends LF with them. The number is kept.
     pub fn total_length(&self) -> u128
         ensures length { result ≡ length (lines_text self.now) }
@@ -279,27 +253,5 @@ impl MetadataLines {
         let before = out.len();
         let written = self.append_from(place, out);
         taken_back(written, before, out)
-    }
-
-    /// Adds the quad in this place.
-    fn push_quad(&self, alloc: Global, i: usize, quads: &mut Vec<Quad>) -> Result<(), OutOfMemory>
-        requires { i < length self.now }
-        ensures { (d : Quad) → OnOk result (quads.new.items ≡ quads.old.items ++ slice_index_or self.now i d ∷ []) }
-    {
-        let quad = self.facts().quad(i).quad(alloc)?;
-        quads.push(quad)?;
-        Ok(())
-    }
-
-    /// The quads. `OutOfMemory` comes only when memory ran out.
-    pub fn quads(&self, alloc: Global) -> Result<Vec<Quad>, OutOfMemory>
-        ensures { IfOk result (λ quads. quads.items ≡ self.now) }
-    {
-        let count = self.count();
-        let mut quads = Vec::with_capacity(alloc, count)?;
-        for i in 0..count {
-            self.push_quad(alloc, i, &mut quads)?;
-        }
-        Ok(quads)
     }
 }

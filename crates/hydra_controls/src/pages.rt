@@ -1,4 +1,4 @@
-// The addresses and the metadata of pages.
+// The addresses of pages.
 ghost use Rattle.std.specs.Prelude.{◌≡◌, ◌≤◌, IfOk};
 ghost use Rattle.std.specs.List.{AllByRecursion};
 ghost use Rattle.rdf_terms.specs.Fragments.{last_page_of};
@@ -6,10 +6,9 @@ ghost use Rattle.tpf_base.specs.Addresses.{IsAddress, address_text};
 ghost use Rattle.template_fill.specs.Authorities.{ShareAuthority};
 ghost use Rattle.template_fill.specs.Forms.{HasNoBlank};
 ghost use Rattle.template_fill.specs.Pages.{page_address};
-ghost use Rattle.template_fill.specs.Metadata.{page_metadata};
 
-use crate::{Config, MetadataLines};
-use rdf_terms::{Quad, Slots};
+use crate::Config;
+use rdf_terms::Slots;
 use std::alloc::Global;
 use template_fill::{WebAddress, page_address};
 use tpf_base::OutOfMemory;
@@ -45,33 +44,4 @@ pub(crate) fn last_page(count: u64, size: u64) -> u64
     ensures { result ≡ last_page_of count size }
 {
     count.div_ceil(size).max(1)
-}
-
-/// The metadata of a page of the fragment with these slots, or of what these rows leave of it, which
-/// has so many triples, in data of this version: 19 to 21 quads of the graph that is named by the
-/// page's address and `#metadata` (Triple Pattern Fragments, "Metadata" and "Controls"; Hydra Core
-/// Vocabulary). They say what the page is about, how many triples its fragment has, where the first,
-/// next and previous pages are, by which form the other fragments are asked for and, last, the version
-/// of the data (OWL 2, section 3.5).
-///
-/// Each quad has its own terms, so the page's address stands in them 27 times and more;
-/// [`MetadataLines`] are the same quads as lines that are made one by one. No fixed place is a blank
-/// node, and the page is one of 1 to the fragment's last. `OutOfMemory` comes only when memory ran out.
-pub fn metadata(
-    alloc: Global,
-    config: &Config,
-    slots: &Slots,
-    rows: &[Slots],
-    page: u64,
-    count: u64,
-    version: u64,
-) -> Result<Vec<Quad>, OutOfMemory>
-    requires slots { HasNoBlank slots.now }
-    requires rows { AllByRecursion HasNoBlank rows.now }
-    requires page { 1 ≤ page }
-    requires last { page ≤ last_page_of count config.now.page_size }
-    ensures { IfOk result (λ quads.
-        quads.items ≡ page_metadata config.now (record { slots = slots.now; rows = rows.now }) page count version) }
-{
-    MetadataLines::new(alloc, config, slots, rows, page, count, version)?.quads(alloc)
 }

@@ -1,6 +1,5 @@
 // Texts in parts, of which one may be the digits of a number.
-ghost use Rattle.std.specs.Prelude.{◌≡◌, ◌≤◌, ◌<◌, ◌^◌, ◌++◌, length, IfOk, OnOk};
-ghost use Rattle.std.specs.String.{string_bytes};
+ghost use Rattle.std.specs.Prelude.{◌≡◌, ◌≤◌, ◌<◌, ◌^◌, ◌++◌, length, OnOk};
 ghost use Rattle.list_laws.specs.Begins.{Begins};
 ghost use Rattle.tpf_base.specs.Decimals.{decimal_text};
 ghost use Rattle.hydra_controls.specs.Cuts.{Cuts};
@@ -8,12 +7,11 @@ ghost use Rattle.hydra_controls.specs.LineTexts.{digits_of, text_of};
 
 use crate::cut::Cut;
 use itoa::Buffer;
-use std::alloc::Global;
-use tpf_base::{OutOfMemory, Text};
+use tpf_base::OutOfMemory;
 
 /// A text in four parts: two texts, the digits of a number if there is one, and a text.
 #[derive(Clone, Copy)]
-pub(crate) struct TextParts<'a> {
+pub struct TextParts<'a> {
     pub front: &'a str,
     pub middle: &'a str,
     pub number: Option<u64>,
@@ -79,27 +77,6 @@ fn push_digits(number: Option<u64>, cut: &mut Cut, out: &mut Vec<u8>) -> Result<
     }
 }
 
-// ---- adding to a text
-
-/// Adds the digits of a number, if there is one.
-fn add_digits(text: &mut String, number: Option<u64>) -> Result<(), OutOfMemory>
-    ensures { OnOk result (string_bytes text.new ≡ string_bytes text.old ++ digits_of number) }
-{
-    match number {
-        None => Ok(()),
-        Some(number) => add_number(text, number),
-    }
-}
-
-/// Adds the digits of a number.
-fn add_number(text: &mut String, number: u64) -> Result<(), OutOfMemory>
-    ensures { OnOk result (string_bytes text.new ≡ string_bytes text.old ++ decimal_text number) }
-{
-    let mut digits = Buffer::new();
-    text.push_str(digits.format(number))?;
-    Ok(())
-}
-
 // ---- lengths
 
 /// How many digits a number has.
@@ -124,7 +101,7 @@ fn digits_length(number: Option<u64>) -> usize
 
 impl<'a> TextParts<'a> {
     /// Two texts.
-    pub(crate) fn new(front: &'a str, end: &'a str) -> TextParts<'a>
+    pub fn new(front: &'a str, end: &'a str) -> TextParts<'a>
         ensures { text_of result ≡ front.now ++ end.now }
     {
         TextParts {
@@ -136,7 +113,7 @@ impl<'a> TextParts<'a> {
     }
 
     /// The digits of a number, and a text.
-    pub(crate) fn numbered(number: u64, end: &'a str) -> TextParts<'a>
+    pub fn numbered(number: u64, end: &'a str) -> TextParts<'a>
         ensures { text_of result ≡ decimal_text number ++ end.now }
     {
         TextParts {
@@ -145,27 +122,6 @@ impl<'a> TextParts<'a> {
             number: Some(number),
             end,
         }
-    }
-
-    /// Adds the parts to a text.
-    #[tactic(auto, using(crate::proofs::WholeLaws::text_whole))]
-    fn add_to(self, text: &mut String) -> Result<(), OutOfMemory>
-        ensures { OnOk result (string_bytes text.new ≡ string_bytes text.old ++ text_of self.entry) }
-    {
-        text.push_str(self.front)?;
-        text.push_str(self.middle)?;
-        add_digits(text, self.number)?;
-        text.push_str(self.end)?;
-        Ok(())
-    }
-
-    /// The whole text.
-    pub(crate) fn text(self, alloc: Global) -> Result<Text, OutOfMemory>
-        ensures { IfOk result (λ text. text ≡ text_of self.entry) }
-    {
-        let mut text = String::with_capacity(alloc, self.front.len() + self.end.len())?;
-        self.add_to(&mut text)?;
-        Ok(Text::from_string(text))
     }
 
     /// How many bytes the text has.

@@ -1,5 +1,5 @@
-//! Cases of `template_fill`, `hydra_controls`, `own_controls` and `control_reader`: addresses, templates, explicit forms, and the
-//! metadata of pages as text and read back.
+//! Cases of `template_fill`, `hydra_controls`, `metadata_quads`, `own_controls` and `control_reader`: addresses, templates, explicit
+//! forms, and the metadata of pages as text and read back.
 //!
 //! The rows stand in the program `library_cases`, which has them answered:
 //!

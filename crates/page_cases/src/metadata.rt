@@ -8,7 +8,8 @@ use crate::controls::config_of;
 use crate::slots::rows_of;
 use case_rows::{Case, CaseFault, number_text, numbers_text};
 use case_slots::slots_of;
-use hydra_controls::{Config, MetadataLines, metadata};
+use hydra_controls::{Config, MetadataLines};
+use metadata_quads::metadata;
 use nquads_text::write_quad;
 use rdf_terms::{Quad, Slots};
 use std::alloc::Global;
@@ -43,16 +44,16 @@ fn written(alloc: Global, quads: &[Quad]) -> Result<Lines, CaseFault> {
     Ok(lines)
 }
 
-/// Appends the line in this place, and says whether it is as long as is said of it.
+/// Appends the line in this place, and says whether that is all of it, and it is as long as is said of it.
 fn make_line(lines: &MetadataLines, i: usize, text: &mut Vec<u8>) -> Result<bool, CaseFault> {
     if i >= lines.count() {
         return Ok(false);
     }
     let before = text.len();
-    if lines.write(i, text).is_err() {
-        return Err(CaseFault::OutOfMemory);
+    match lines.write_part(i, 0, usize::MAX, text) {
+        Ok(more) => Ok(!more && lines.length(i) == text.len().saturating_sub(before) as u128),
+        Err(_) => Err(CaseFault::OutOfMemory),
     }
-    Ok(lines.length(i) == text.len().saturating_sub(before) as u128)
 }
 
 /// Appends the lines before this place, and says whether each is as long as is said of it.

@@ -1,5 +1,0 @@
-use Rattle.hydra_controls.proofs.TermLaws.{term_is}
-use Rattle.hydra_controls.proofs.term_text.TermText.term.Goals as goal
-
-pub returns : goal.returns
-returns c = term_is c.args.self c.in_ok-text.text c.term_as.result c.in_ok-text.ensures c.term_as.ensures

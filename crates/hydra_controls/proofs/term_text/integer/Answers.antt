@@ -1,5 +1,0 @@
-use Rattle.hydra_controls.proofs.Iris.{is_datatype-is}
-use Rattle.hydra_controls.proofs.term_text.integer.Goals as goal
-
-pub from_text-requires : goal.from_text-requires
-from_text-requires c = is_datatype-is c.in_ok-datatype.datatype c.in_ok-datatype.ensures

@@ -1,0 +1,5 @@
+pub mod Numbers
+pub mod Labels
+pub mod TermLaws
+pub mod TableLaws
+pub mod QuadLaws
