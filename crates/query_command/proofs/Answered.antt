@@ -10,3 +10,10 @@ pub by_call : {A : Type 0} (P : Result A AnswerFault → Type 0) (came : Result 
     → ((answer : A) → came ≡ Ok answer → P (Ok answer)) → ((fault : ClientFault) → came ≡ Err fault → P (Err (faults.Client fault))) → P told
 by_call P (Ok answer) told ok err gave failed = subst P (sym (ok answer refl)) (gave answer refl)
 by_call P (Err fault) told ok err gave failed = subst P (sym (err fault refl)) (failed fault refl)
+
+-- the same, where what the call promises of its result is handed on
+pub by_called : {A : Type 0} (Q : Result A ClientFault → Type 0) (P : Result A AnswerFault → Type 0) (came : Result A ClientFault) (told : Result A AnswerFault)
+    → ((answer : A) → came ≡ Ok answer → told ≡ Ok answer) → ((fault : ClientFault) → came ≡ Err fault → told ≡ Err (faults.Client fault))
+    → Q came → ((answer : A) → Q (Ok answer) → P (Ok answer)) → ((fault : ClientFault) → Q (Err fault) → P (Err (faults.Client fault))) → P told
+by_called Q P (Ok answer) told ok err q gave failed = subst P (sym (ok answer refl)) (gave answer q)
+by_called Q P (Err fault) told ok err q gave failed = subst P (sym (err fault refl)) (failed fault q)

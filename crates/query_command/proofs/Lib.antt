@@ -16,5 +16,6 @@ pub mod Opening
 pub mod ValidBlocks
 pub mod GroupPlans
 pub mod GroupLooping
+pub mod Plain
 pub mod GroupFiles
 pub mod Asking
