@@ -7,3 +7,4 @@ pub mod Patterns
 pub mod Places
 pub mod Fragments
 pub mod Merging
+pub mod Steps

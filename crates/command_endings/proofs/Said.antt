@@ -5,7 +5,12 @@ use Rattle.tpf_base.specs.Wrote.{SinkState}
 use Rattle.tpf_base.specs.declared.fault.Fault.{Fault}
 use Rattle.data_files.specs.declared.fault.DataFault.{DataFault}
 use Rattle.answer_faults.specs.declared.fault.AnswerFault.{AnswerFault}
-use Rattle.command_endings.specs.Endings.{data_status, data_line, made_status, made_line, counted_status, counted_line}
+use Rattle.http_wire.specs.declared.message.ReplyFault.{ReplyFault}
+use Rattle.tpf_client.specs.declared.fault.ClientFault.{ClientFault}
+use Rattle.data_files.specs.declared.fault.QueryFileFault.{QueryFileFault}
+use Rattle.command_endings.specs.declared.ending.Ending.{Ending}
+use Rattle.command_endings.specs.EndingViews.{ending_view}
+use Rattle.command_endings.specs.Endings.{data_status, data_line, query_status, query_line, reply_line, client_status, client_line, made_status, made_line, counted_status, counted_line, Says}
 use Rattle.command_endings.specs.Lines.{SaysLine}
 
 -- the same is said where the line is equal
@@ -44,3 +49,27 @@ label_line_of label other is = ap (λ (l : List ℕ). codes "data: genid " ++ l 
 
 pub file_line_of : (name other : List ℕ) → name ≡ other → (codes "file: " ++ name ++ codes "\n") ≡ (codes "file: " ++ other ++ codes "\n")
 file_line_of name other is = ap (λ (n : List ℕ). codes "file: " ++ n ++ codes "\n") is
+
+-- what is said of a known fault of a reply is said of the fault
+pub reply_said : (result : ℕ) (old new : SinkState) (fault known : ReplyFault) → fault ≡ known → SaysLine result 6 (reply_line known) old new → SaysLine result 6 (reply_line fault) old new
+reply_said result old new fault known is h = subst (λ (f : ReplyFault). SaysLine result 6 (reply_line f) old new) (sym is) h
+
+-- the same of a call over a wire, of a query and of a run
+pub client_said : (result : ℕ) (old new : SinkState) (fault known : ClientFault) → fault ≡ known → SaysLine result (client_status known) (client_line known) old new → SaysLine result (client_status fault) (client_line fault) old new
+client_said result old new fault known is h = subst (λ (f : ClientFault). SaysLine result (client_status f) (client_line f) old new) (sym is) h
+
+pub query_said : (result : ℕ) (old new : SinkState) (name : List ℕ) (fault known : QueryFileFault) → fault ≡ known → SaysLine result (query_status known) (query_line name known) old new → SaysLine result (query_status fault) (query_line name fault) old new
+query_said result old new name fault known is h = subst (λ (f : QueryFileFault). SaysLine result (query_status f) (query_line name f) old new) (sym is) h
+
+pub run_said : (result : ℕ) (old new : SinkState) (ending known : Ending) → ending ≡ known → Says result (ending_view known) old new → Says result (ending_view ending) old new
+run_said result old new ending known is h = subst (λ (e : Ending). Says result (ending_view e) old new) (sym is) h
+
+-- the lines of a status, of a page, and of the query by the name of the fault
+pub status_line_of : (n other : ℕ) → n ≡ other → (codes "reply: status " ++ decimal n ++ codes "\n") ≡ (codes "reply: status " ++ decimal other ++ codes "\n")
+status_line_of n other is = ap (λ (m : ℕ). codes "reply: status " ++ decimal m ++ codes "\n") is
+
+pub page_line_of : (why other : List ℕ) → why ≡ other → (codes "reply: " ++ why ++ codes "\n") ≡ (codes "reply: " ++ other ++ codes "\n")
+page_line_of why other is = ap (λ (w : List ℕ). codes "reply: " ++ w ++ codes "\n") is
+
+pub query_line_of : (n : ℕ) (why other : List ℕ) → why ≡ other → (codes "query: byte " ++ decimal n ++ codes ": " ++ why ++ codes "\n") ≡ (codes "query: byte " ++ decimal n ++ codes ": " ++ other ++ codes "\n")
+query_line_of n why other is = ap (λ (w : List ℕ). codes "query: byte " ++ decimal n ++ codes ": " ++ w ++ codes "\n") is

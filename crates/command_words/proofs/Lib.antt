@@ -1,4 +1,6 @@
+mod Adding
 mod Addresses
+mod Chains
 mod Found
 mod Joins
 mod LoneDash

@@ -2,3 +2,4 @@ pub mod IncomingLemmas
 pub mod ReceivingLemmas
 pub mod ConcludeLemmas
 pub mod PollLemmas
+pub mod TouchLemmas

@@ -12,6 +12,7 @@ use Rattle.std.proofs.lemmas.List.Folds.{list_all-append}
 use Rattle.std.proofs.lemmas.List.Sorted.{IsPermutation-sym, IsPermutation-trans, IsPermutation-middle, IsPermutation-to_front, All-permutation}
 use Rattle.list_laws.proofs.Lists.{map_snoc, snoc_append, none_wanted}
 use Rattle.list_laws.proofs.Orders.{same}
+use Rattle.list_laws.proofs.Tests.{and_false}
 use Rattle.rdf_terms.specs.declared.term.Triple.{Triple}
 use Rattle.tpf_base.specs.Addresses.{Address}
 use Rattle.fragment_page.specs.declared.page.Page.{Page}
@@ -96,16 +97,12 @@ no-tickets (p ∷ parts) e = by p.ticket p.page (no-tickets parts) e where
 pub is-whole : (g : GatheringData) → g.wanted ≡ [] → tickets_of g ≡ [] → is_whole g ≡ true
 is-whole g e h = ap₂ (λ (l : List Address) (b : Bool). (length l == 0) && b) e (no-tickets g.parts h)
 
-and-false : (b : Bool) → (b && false) ≡ false
-and-false true = refl
-and-false false = refl
-
 -- one that handed out an address is not
 pub handed-open : (old new : GatheringData) (ticket : ℕ) (address : Address) → HandsPart old new ticket address → is_whole new ≡ false
 handed-open old new ticket address h =
     let there : are_there new.parts ≡ false =
-    ap (λ (l : List PartData). are_there l) h.parts ∙ list_all-append (λ (p : PartData). is_some p.page) old.parts (awaited ticket address ∷ []) ∙ and-false (are_there old.parts) in
-    ap (λ (b : Bool). (length new.wanted == 0) && b) there ∙ and-false (length new.wanted == 0)
+    ap (λ (l : List PartData). are_there l) h.parts ∙ list_all-append (λ (p : PartData). is_some p.page) old.parts (awaited ticket address ∷ []) ∙ and_false (are_there old.parts) in
+    ap (λ (b : Bool). (length new.wanted == 0) && b) there ∙ and_false (length new.wanted == 0)
 
 -- ---- the round stays
 

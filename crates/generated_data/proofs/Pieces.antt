@@ -1,8 +1,11 @@
 -- What is written, what is gathered, and what is left of a text that is written in pieces.
-use Rattle.std.proofs.Common.{ℕ, suc, ◌≡◌, ◌+◌, ◌<◌, ◌≤◌, ◌-◌, List, [], ◌++◌, Option, ap, sym, ◌∙◌, subst, append_assoc, append-nil, arith}
+use Rattle.std.proofs.Common.{ℕ, suc, ◌≡◌, ◌+◌, ◌<◌, ◌≤◌, ◌-◌, List, [], ◌++◌, Option, Result, Err, refl, ap, sym, ◌∙◌, subst, append_assoc, append-nil, arith}
 use Rattle.std.specs.List.{flat_map, range_with_len}
 use Rattle.std.specs.Io.KnownBytes.{Appends}
+use Rattle.list_laws.proofs.Results.{err_same}
 use Rattle.tpf_base.specs.Wrote.{AppendsPrefix}
+use Rattle.tpf_base.specs.declared.fault.Fault.{Fault}
+use Rattle.tpf_base.specs.declared.fault.Fault.TheVariants.{Failed, OutOfMemory}
 use Rattle.tpf_base.proofs.Appended.{Appends-then, Appends-none}
 use Rattle.rdf_terms.specs.Canon.{canon}
 use Rattle.rdf_terms.proofs.Canonical.{canon_of_both}
@@ -71,3 +74,17 @@ pub whole_written : (n i : ℕ) (whole : List ℕ) (old new newer : Option (List
 whole_written n i whole old new newer piece given over same a w =
     let e : whole ≡ w.done ++ piece = w.parts ∙ ap (λ l. w.done ++ (piece ++ l)) (left_none n i over) ∙ ap (λ l. w.done ++ l) (append-nil piece) in
     subst (λ (l : List ℕ). Appends old newer l) (sym e) (Appends-then old new newer w.done piece w.bytes (subst (λ (l : List ℕ). Appends new newer l) same a))
+
+pub nothing_written : (old : Option (List ℕ)) (whole : List ℕ) → AppendsPrefix old old whole
+nothing_written old whole = record { front = []; rest = whole; whole = refl; bytes = Appends-none old }
+
+pub front_so_far : (whole : List ℕ) (old new : Option (List ℕ)) (piece rest : List ℕ) → IsWriting whole old new piece rest → AppendsPrefix old new whole
+front_so_far whole old new piece rest w = record { front = w.done; rest = piece ++ rest; whole = w.parts; bytes = w.bytes }
+
+-- want of memory is no failure of the sink
+pub memory_not_failed : {T : Type 0} → ◌≡◌ {A = Result T Fault} (Err OutOfMemory) (Err Failed) → ⊥
+memory_not_failed e = cc
+
+-- what is returned failed where the fault that it hands on is a failure
+pub as_err : {T U : Type 0} (r : Result T Fault) (p e : Fault) → r ≡ Err p → p ≡ e → r ≡ Err Failed → ◌≡◌ {A = Result U Fault} (Err e) (Err Failed)
+as_err r p e is same h = ap (λ (f : Fault). Err f) (sym same ∙ err_same (sym is ∙ h))

@@ -15,6 +15,7 @@ use Rattle.group_query.specs.declared.step.Step.{Step}
 use Rattle.group_query.specs.declared.step.Step.TheVariants as steps
 use Rattle.group_query.specs.Trees.{GroupData, group_tree, blocks_of, block_query, shown_query, tree_of, IsPostfix}
 use Rattle.group_rows.specs.Gathering.{gathered_answers}
+use Rattle.tpf_base.proofs.SendingLemmas.{allowed_same}
 use Rattle.tpf_client.specs.declared.options.Options.{Options}
 use Rattle.tpf_client.specs.declared.options.Report.{Report}
 use Rattle.tpf_client.specs.declared.fault.ClientFault.{ClientFault}
@@ -27,7 +28,6 @@ use Rattle.tpf_client.specs.Honest.{IsSolutions}
 use Rattle.tpf_client.specs.Plans.{OverHonest}
 use Rattle.tpf_client.specs.Ended.{GivesOverEnds}
 use Rattle.tpf_client.specs.Still.{SucceedsStill, PacesStill}
-use Rattle.tpf_client.proofs.Waiting.{same-allowed}
 use Rattle.group_patterns.specs.Blocks.{BlockRows, requests_of, with_budget, left_by, GivesRows, GivesAll, of_block, EndsBlock, Stops, InBlock, IsSpent, Differs, IsLacking, AsksSome}
 use Rattle.group_patterns.specs.Asking.{block_in, blocks_in, BlocksFit, Progress, no_progress, IsProgress, KeepsNot, CallEnds, Called, Lacking, AsksBlock, BlockEnds, NothingLeft, InCall, NotKept, AsksStep, StepEnds, AsksBlocks, AsksFirst, PutsTogether, Gathers}
 use Rattle.group_patterns.proofs.Allowed.{acts-so, gives-so, ends-so}
@@ -49,7 +49,7 @@ module _ (allows : List ℕ → ℕ → List ℕ → List ℕ → Type 0) (optio
       → IfOk r (λ x. GivesRows allows options start (block_query names ps) (record { report = told x; rows = rows x }) since now)
   gave (Ok x) e solutions paced = record {
     some = some;
-    acts = acts-so allows allows (same-allowed allows) options since now start (block_query names ps) told (Ok x) e.acts;
+    acts = acts-so allows allows (allowed_same allows) options since now start (block_query names ps) told (Ok x) e.acts;
     returns = e.ok;
     solutions = solutions;
     paced = paced;
@@ -62,7 +62,7 @@ module _ (allows : List ℕ → ℕ → List ℕ → List ℕ → Type 0) (optio
   ended (Ok x) e still sink = tt
   ended (Err fault) e still sink = Called (record {
     some = some;
-    acts = acts-so allows allows (same-allowed allows) options since now start (block_query names ps) told (Err fault) e.acts;
+    acts = acts-so allows allows (allowed_same allows) options since now start (block_query names ps) told (Err fault) e.acts;
     fails = e.err;
     still = still;
     no_sink = λ is. sink (ap (λ (f : ClientFault). let r : Result A ClientFault = Err f in r) is);

@@ -6,9 +6,10 @@ use Rattle.std.proofs.lemmas.List.{get_or_default, get_or_append_left, get_or-se
 use Rattle.std.proofs.lemmas.List.Elements.{All-nil}
 use Rattle.std.proofs.lemmas.Bool.Decides.{nat_tests}
 use Rattle.std.proofs.lemmas.Bool.{cond-true, cond-false}
+use Rattle.bgp_core.specs.Solutions.{Places}
 use Rattle.join_core.specs.Nodes.{NodeData}
 use Rattle.join_core.specs.Joins.{nodes, Stands, IsAt, level_at, settled, levels_after}
-use Rattle.join_core.specs.Levels.{Seed, seed_node, LevelData, level, nodes_of, plain, level_of, is_key, spot, found_at, index_at, made_levels, with_node_in}
+use Rattle.join_core.specs.Levels.{Seed, seed_node, LevelData, level, nodes_of, plain, level_of, is_key, spot, found_at, index_at, made_levels, with_node_in, TakesMade}
 use Rattle.join_core.proofs.Kept.{nodes-found}
 use Rattle.join_core.proofs.Lists.{front}
 
@@ -198,3 +199,10 @@ settled-back ls d below a b b' l l' z z' more h ata eu at eb here same there ez 
     let there' : z ≡ get_or (set (set ls (d + 1) b'') d l') (d + 1) z = there ∙ ap (λ (x : LevelData). get_or (set (set ls (d + 1) x) d l') (d + 1) z) eb in
     ap (λ (x : LevelData). plain (set (set (set ls (d + 1) x) d l') (d + 1) z')) eb ∙ ap (λ (x : LevelData). plain (set (set (set ls (d + 1) b'') d l') (d + 1) x)) (ez ∙ ap (λ (n : ℕ). level z.started (take n z.unstarted)) count)
     ∙ back-again ls d b z l l' more h at here' same there'
+
+-- what was taken is the same, whatever it is written as
+pub takes-as : (old new : List (List NodeData)) (rows more : List Places) (d i : ℕ) (m n : List NodeData) (p q : List Places) (a b : Option NodeData) → m ≡ n → p ≡ q → a ≡ b → TakesMade old rows new more d i m p a → TakesMade old rows new more d i n q b
+takes-as old new rows more d i m n p q a b e f g t = record {
+  levels = t.levels ∙ (ap (λ (x : List NodeData). made_levels old d i x a) e ∙ ap (λ (x : Option NodeData). made_levels old d i n x) g);
+  waiting = t.waiting ∙ ap (λ (x : List Places). rows ++ x) f;
+}

@@ -15,6 +15,10 @@ and_first a b h = (and_parts a b h).0
 pub and_second : (a b : Bool) → (a && b) ≡ true → b ≡ true
 and_second a b h = (and_parts a b h).1
 
+pub and_false : (a : Bool) → (a && false) ≡ false
+and_false true = refl
+and_false false = refl
+
 pub assoc : (a b c : Bool) → (a && (b && c)) ≡ ((a && b) && c)
 assoc true b c = refl
 assoc false b c = refl
@@ -39,6 +43,12 @@ self_test k = grind (arith, nat_tests)
 
 pub equals_itself : (x : ℕ) → (x == x) ≡ true
 equals_itself x = grind (arith, nat_tests)
+
+pub not_equal : (b c : ℕ) → (b ≡ c → ⊥) → (b == c) ≡ false
+not_equal b c h = grind (arith, nat_tests, h)
+
+pub same_least : (m n : ℕ) → n ≡ m → m ≤ n
+same_least m n same = omega (arith, same)
 
 pub all_numbers : (n : ℕ) → n - 0 ≡ n
 all_numbers n = omega arith

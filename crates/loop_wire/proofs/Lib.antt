@@ -5,3 +5,4 @@ pub mod Calls
 pub mod Wires
 pub mod Waits
 pub mod Faults
+pub mod Causes

@@ -3,7 +3,7 @@ use Rattle.std.proofs.Common.{ℕ, zero, suc, ◌≡◌, ◌<◌, ◌≤◌, ◌
 use Rattle.std.proofs.lemmas.List.{append-nil, take-append-le, length-take-le}
 use Rattle.std.proofs.Math.Seq.{take-append-add}
 use Rattle.std.proofs.lemmas.Grind.{common_steps}
-use Rattle.tpf_base.specs.Links.{Receiving, IsRipe, ToSend, ToReceive, is_short}
+use Rattle.tpf_base.specs.Links.{Sending, Receiving, IsRipe, ToSend, ToReceive, is_short}
 use Rattle.tpf_base.specs.declared.wire.Moved.{Moved}
 use Rattle.tpf_base.specs.declared.wire.Moved.TheVariants as answers
 use Rattle.connections.specs.Kinds.{Kind, IsWhole}
@@ -227,6 +227,47 @@ gives_bytes owes most n stalls to pending rest old new is left some within room 
   later = let P : Held → Type 0 = λ h. old.stalls ≤ h.stalls in subst P (sym left) (omega arith);
 }
 
+pub gives_none : (owes : List ℕ → List ℕ) (most : ℕ) (stalls : Bool) (to : List ℕ) (old new : Held) → new ≡ old → Gives owes most stalls to old new answers.OutOfMemory
+gives_none owes most stalls to old new left = record {
+  left = left;
+  moved = λ n e. absurd cc;
+  end_ = λ e. absurd cc;
+  not_yet = λ e f. absurd cc;
+  no_fault = λ e. absurd cc;
+  later = let P : Held → Type 0 = λ h. old.stalls ≤ h.stalls in subst P (sym left) (omega arith);
+}
+
+-- the same of a send
+pub hears_none : (stalls : Bool) (front : List ℕ) (old new : Held) → new ≡ old → Hears stalls front old new answers.OutOfMemory
+hears_none stalls front old new left = record {
+  left = left;
+  moved = λ n e. absurd cc;
+  not_yet = λ e. absurd cc;
+  no_end = λ e. absurd cc;
+  no_fault = λ e. absurd cc;
+  later = let P : Held → Type 0 = λ h. old.stalls ≤ h.stalls in subst P (sym left) (omega arith);
+}
+
+pub hears_stall : (stalls : Bool) (front : List ℕ) (old new : Held) → new ≡ stalled_at Sending true old → old.stalls ≤ new.stalls → stalls ≡ true → Hears stalls front old new answers.NotYet
+hears_stall stalls front old new left later stalling = record {
+  left = left;
+  moved = λ n e. absurd cc;
+  not_yet = λ e. stalling;
+  no_end = λ e. absurd cc;
+  no_fault = λ e. absurd cc;
+  later = later;
+}
+
+pub hears_bytes : (stalls : Bool) (front : List ℕ) (old new : Held) (n : ℕ) → new ≡ sent_more front old → n ≡ length front → Hears stalls front old new (answers.Moved n)
+hears_bytes stalls front old new n left all = record {
+  left = left;
+  moved = λ m e. let same : n ≡ m = cc in sym same ∙ all;
+  not_yet = λ e. absurd cc;
+  no_end = λ e. absurd cc;
+  no_fault = λ e. absurd cc;
+  later = let P : Held → Type 0 = λ h. old.stalls ≤ h.stalls in subst P (sym left) (omega arith);
+}
+
 -- a call that wanted memory left the link as it was
 pub left_unsent : (stalls : Bool) (front : List ℕ) (old new : Held) (answer : Moved) → answer ≡ answers.OutOfMemory → Hears stalls front old new answer → new ≡ old
 left_unsent stalls front old new answer is hears = hears.left ∙ ap (λ (a : Moved). after_send a front old) is
@@ -238,6 +279,10 @@ module _ {C Data Settings : Type 0} where
   pub kept_as : (kind : Kind C Data Settings) (suits : C → Type 0) (serving : Serving Data Settings) (owes : List ℕ → List ℕ) (held held' : Held) (connection : Option C)
       → held' ≡ held → IsKept kind suits serving owes held connection → IsKept kind suits serving owes held' connection
   kept_as kind suits serving owes held held' connection is kept = let P : Held → Type 0 = λ h. IsKept kind suits serving owes h connection in subst P (sym is) kept
+
+  pub kept_by : (kind : Kind C Data Settings) (suits : C → Type 0) (serving : Serving Data Settings) (owes : List ℕ → List ℕ) (held : Held) (connection connection' : Option C)
+      → connection ≡ connection' → IsKept kind suits serving owes held connection → IsKept kind suits serving owes held connection'
+  kept_by kind suits serving owes held connection connection' is kept = subst (λ (o : Option C). IsKept kind suits serving owes held o) is kept
 
   -- the connection is given up
   pub kept_gone : (kind : Kind C Data Settings) (suits : C → Type 0) (serving : Serving Data Settings) (owes : List ℕ → List ℕ) (held held' : Held) (connection : Option C)
@@ -263,6 +308,20 @@ module _ {C Data Settings : Type 0} where
   kept_stall kind suits serving owes held held' c c' left free short is talking stays suited = kept_as kind suits serving owes (stalled_at Receiving (is_short (told owes held)) held) held' _ (left ∙ ap (λ (b : Bool). stalled_at Receiving b held) (sym short)) (record {
     is_held = held_unreceived owes held free is;
     talks = talks_stay kind suits serving owes held (stalled_at Receiving (is_short (told owes held)) held) c c' refl refl talking stays suited;
+  })
+
+module _ {C Data Settings : Type 0} where
+  -- the send of a link stalled
+  pub kept_sending : (kind : Kind C Data Settings) (suits : C → Type 0) (serving : Serving Data Settings) (owes : List ℕ → List ℕ) (held held' : Held) (c : C)
+      → held' ≡ stalled_at Sending true held → held.is_open ≡ true → IsKept kind suits serving owes held (Some c) → IsKept kind suits serving owes held' (Some c)
+  kept_sending kind suits serving owes held held' c left free kept = kept_as kind suits serving owes (stalled_at Sending true held) held' _ left (record {
+    is_held = record {
+      ripe = λ ripe. ToSend free refl;
+      ripe_alone = λ ripe. refl;
+      awake = λ up. absurd cc;
+      within = kept.is_held.within;
+    };
+    talks = record { suits = kept.talks.suits; answering = kept.talks.answering };
   })
 
 pub two_sides : (b : Bool) (k s : ℕ) → (k < s → b ≡ false) → (s ≤ k → b ≡ false) → b ≡ false

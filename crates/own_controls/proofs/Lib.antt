@@ -1,3 +1,4 @@
+pub mod Nothing
 pub mod Web
 pub mod Numbers
 pub mod Asking

@@ -15,3 +15,4 @@ pub mod Skips
 pub mod SomeQuery
 pub mod Splits
 pub mod Texts
+pub mod Variables

@@ -4,14 +4,7 @@ use Rattle.tpf_client.specs.declared.fault.ClientFault.{ClientFault}
 use Rattle.answer_faults.specs.declared.fault.AnswerFault.{AnswerFault}
 use Rattle.answer_faults.specs.declared.fault.AnswerFault.TheVariants as faults
 
--- what holds of either outcome of the call, as of the query, holds of what came of the query
-pub by_call : {A : Type 0} (P : Result A AnswerFault → Type 0) (came : Result A ClientFault) (told : Result A AnswerFault)
-    → ((answer : A) → came ≡ Ok answer → told ≡ Ok answer) → ((fault : ClientFault) → came ≡ Err fault → told ≡ Err (faults.Client fault))
-    → ((answer : A) → came ≡ Ok answer → P (Ok answer)) → ((fault : ClientFault) → came ≡ Err fault → P (Err (faults.Client fault))) → P told
-by_call P (Ok answer) told ok err gave failed = subst P (sym (ok answer refl)) (gave answer refl)
-by_call P (Err fault) told ok err gave failed = subst P (sym (err fault refl)) (failed fault refl)
-
--- the same, where what the call promises of its result is handed on
+-- what holds of either outcome of the call, by what the call promises of its result, holds of what came of the query
 pub by_called : {A : Type 0} (Q : Result A ClientFault → Type 0) (P : Result A AnswerFault → Type 0) (came : Result A ClientFault) (told : Result A AnswerFault)
     → ((answer : A) → came ≡ Ok answer → told ≡ Ok answer) → ((fault : ClientFault) → came ≡ Err fault → told ≡ Err (faults.Client fault))
     → Q came → ((answer : A) → Q (Ok answer) → P (Ok answer)) → ((fault : ClientFault) → Q (Err fault) → P (Err (faults.Client fault))) → P told

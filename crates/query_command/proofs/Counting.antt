@@ -22,6 +22,8 @@ use Rattle.tpf_client.specs.declared.fault.ClientFault.{ClientFault}
 use Rattle.tpf_client.specs.declared.fault.ClientFault.TheVariants as clients
 use Rattle.tpf_client.specs.Bounds.{SuitsCalls}
 use Rattle.tpf_client.specs.Calls.{solutions_of}
+use Rattle.data_files.specs.declared.fault.DataFault.{DataFault}
+use Rattle.data_files.specs.declared.fault.DataFault.TheVariants as data_faults
 use Rattle.data_files.specs.declared.query.Grammar.TheVariants as grammars
 use Rattle.data_files.specs.Data.{Files, IfTold}
 use Rattle.data_files.specs.Queries.{HoldsQuery, IsOfQueryFile, QueryOutcome, IsQueryOutcome, reads}
@@ -217,3 +219,18 @@ module _ (shelf shelf' : ShelfState) (persons : ℕ) (name : List ℕ) (inside :
       → QueryDecides grammars.Groups shelf shelf' name (λ outcome. GivesAnswer outcome result)
   gives_counts (Ok counts) a e quiet = answers_read shelf.told persons name inside counts a
   gives_counts (Err fault) a e quiet = causes_read Counts fault e quiet
+
+-- what the call promises of its numbers and of the wire that it leaves
+pub record CalledGenerated (server : FragmentServer) (persons : ℕ) (q : QueryData) (inside : Option (Looped FragmentServer)) (result : Result Counts ClientFault) : Type 0 where
+  pub counts : IfOk result (CountsQuery persons q)
+  pub answers : IfOk result (λ counts. LoopsGenerated persons inside (AsksOver q counts.rows))
+  pub cause : IfErr result (λ fault. LoopsGenerated persons inside (FailsOn q fault))
+  pub sent : LoopsServer server 0 0 inside (λ old new. SendsPlan usual_options (serving server).data_set (serving server).config q (wire_of new))
+  pub requested : LoopsServer server 0 0 inside (λ old new. BoundsRequests usual_options (serving server).data_set (serving server).config q (wire_of new))
+  pub replied : IfOk result (λ counts. LoopsServer server 0 0 inside (RepliesRows (serving server).data_set (serving server).config q counts.rows))
+  pub ends : AreServable (serving server).data_set → AllByRecursion IsAskable q.patterns → IfErr result (MayEnd 0 usual_options (serving server).data_set (serving server).config q)
+  pub honest : LoopsServer server 0 0 inside LeavesHonest
+
+-- want of memory is no failure of the file
+pub memory_not_file : ◌≡◌ {A = DataFault} data_faults.OutOfMemory data_faults.File → ⊥
+memory_not_file e = cc

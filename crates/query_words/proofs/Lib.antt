@@ -1,2 +1,4 @@
 pub mod Chars
+pub mod Steps
+pub mod Unescaped
 pub mod Values

@@ -1,15 +1,20 @@
 -- What rows leave of slots, by ids.
-use Rattle.std.proofs.Common.{ℕ, ◌≡◌, ◌++◌, Bool, ◌&&◌, ◌||◌, List, [], ◌∷◌, map, Option, Some, None, ap, ◌∙◌}
-use Rattle.std.specs.List.{Contains}
-use Rattle.list_laws.proofs.Lists.{any_snoc}
+use Rattle.std.proofs.Common.{ℕ, ◌≡◌, ◌++◌, Bool, true, false, ◌&&◌, ◌||◌, List, [], ◌∷◌, map, Option, Some, None, refl, sym, ap, subst, ◌∙◌}
+use Rattle.std.specs.List.{Contains, list_any}
+use Rattle.std.proofs.lemmas.List.Elements.{All-nil, All-push}
+use Rattle.list_laws.proofs.Lists.{any_snoc, map_snoc}
+use Rattle.list_laws.proofs.Tests.{and_false}
 use Rattle.list_laws.proofs.Members.{Contains-map, any_of, in_flat_map}
+use Rattle.rdf_terms.specs.declared.term.Term.{Term}
 use Rattle.rdf_terms.specs.declared.term.Triple.{Triple}
+use Rattle.rdf_terms.specs.declared.slots.Slot.TheVariants.{Fixed}
 use Rattle.rdf_terms.specs.declared.slots.Slots.{Slots}
+use Rattle.rdf_terms.specs.EqualityLaws.{term_decides}
 use Rattle.rdf_terms.specs.Slots.{matches, matches_slot}
 use Rattle.rdf_terms.specs.Selections.{matches_one}
 use Rattle.triple_table.specs.declared.ids.IdPattern.{IdPattern}
 use Rattle.triple_table.specs.Served.{terms_in}
-use Rattle.triple_table.specs.Stored.{Stored, slots_at, triples_in}
+use Rattle.triple_table.specs.Stored.{Stored, IsIdPattern, slots_at, triples_in}
 use Rattle.triple_table.proofs.Built.{subject_in, predicate_in, object_in}
 use Rattle.restricted_pages.proofs.Bools.{and_or, either, or_absorbed, place_by_place, second_false, third_false, three}
 use Rattle.restricted_pages.specs.Patterns.{IsJoined, IsJoinedId, ArePatternsOf, matches_pattern}
@@ -42,6 +47,20 @@ module _ (s : Stored) (slots row : Slots) where
       IsJoined s slots row (Some record { subject = a; predicate = b; object = c })
   joined a b c h k l = (record { subject = h.0; predicate = k.0; object = l.0 }, λ t. parted t ∙ three _ _ _ _ _ _ (h.1 t.subject) (k.1 t.predicate) (l.1 t.object))
 
+-- ---- no row
+
+pub no_row : (s : Stored) (slots : Slots) (ps : List IdPattern) → ps ≡ [] → ArePatternsOf s slots [] ps
+no_row s slots ps e = subst (λ (l : List IdPattern). ArePatternsOf s slots [] l) (sym e) record { ids = All-nil (IsIdPattern s); same = λ t held. and_false (matches slots t) }
+
+-- ---- a term that the table does not hold
+
+pub not_held : (terms : List Term) (term t : Term) → (Contains terms term → ⊥) → Contains terms t → matches_slot (Fixed term) t ≡ false
+not_held terms term t none held = by (matches_slot (Fixed term) t) refl
+  where
+    by : (b : Bool) → matches_slot (Fixed term) t ≡ b → b ≡ false
+    by true h = absurd (none (subst (Contains terms) (sym ((term_decides term t).0 h)) held))
+    by false h = refl
+
 -- ---- one row more
 
 module _ (s : Stored) (slots row : Slots) (rows : List Slots) (ps : List IdPattern) (h : ArePatternsOf s slots rows ps) where
@@ -55,4 +74,14 @@ module _ (s : Stored) (slots row : Slots) (rows : List Slots) (ps : List IdPatte
     ids = h.ids;
     same = λ t held. row_more (matches (slots_at s p) t) t held (is.1 t)
         ∙ or_absorbed (matches (slots_at s p) t) (matches_pattern s ps t) (any_of (λ r. matches r t) (map (slots_at s) ps) (slots_at s p) (Contains-map (slots_at s) ps p found));
+  }
+
+  pub nothing_more : IsJoined s slots row None → ArePatternsOf s slots (rows ++ row ∷ []) ps
+  nothing_more is = record { ids = h.ids; same = λ t held. row_more false t held (is t held) }
+
+  pub one_more : (p : IdPattern) → IsJoined s slots row (Some p) → (new : List IdPattern) → new ≡ ps ++ p ∷ [] → ArePatternsOf s slots (rows ++ row ∷ []) new
+  one_more p is new e = subst (λ (l : List IdPattern). ArePatternsOf s slots (rows ++ row ∷ []) l) (sym e) record {
+    ids = All-push (IsIdPattern s) ps p h.ids is.0;
+    same = λ t held. row_more (matches (slots_at s p) t) t held (is.1 t)
+        ∙ sym (ap (list_any (λ r. matches r t)) (map_snoc (slots_at s) ps p) ∙ any_snoc (λ r. matches r t) (map (slots_at s) ps) (slots_at s p));
   }

@@ -1,5 +1,5 @@
 -- A triple is held against the patterns of its cell alone.
-use Rattle.std.proofs.Common.{ℕ, ◌≡◌, ◌+◌, ◌*◌, ◌/◌, ◌%◌, ◌<◌, ◌&&◌, ◌||◌, ◌++◌, Bool, true, false, List, [], ◌∷◌, take, length, Option, Some, None, get_or, refl, sym, ap, subst, ◌∙◌, arith}
+use Rattle.std.proofs.Common.{ℕ, zero, suc, ◌≡◌, ◌+◌, ◌*◌, ◌/◌, ◌%◌, ◌<◌, ◌&&◌, ◌||◌, ◌++◌, Bool, true, false, ltb, List, [], ◌∷◌, take, length, Option, Some, None, get_or, refl, sym, ap, subst, ◌∙◌, arith}
 use Rattle.std.specs.List.{list_any}
 use Rattle.std.proofs.lemmas.Bool.{and_from, and_parts, false≢true}
 use Rattle.std.proofs.lemmas.Bool.Decides.{Decides-eqb}
@@ -7,7 +7,8 @@ use Rattle.std.proofs.lemmas.List.{take_more}
 use Rattle.list_laws.proofs.Lists.{any_snoc}
 use Rattle.triple_table.specs.declared.ids.IdTriple.{IdTriple}
 use Rattle.triple_table.specs.declared.ids.IdPattern.{IdPattern}
-use Rattle.restricted_pages.specs.Cells.{cell_of, may_match, may_stand}
+use Rattle.restricted_pages.specs.declared.sieve.Cell.{Cell}
+use Rattle.restricted_pages.specs.Cells.{IsCell, cell_of, may_match, may_stand}
 use Rattle.restricted_pages.specs.Patterns.{fits, fits_id}
 
 -- ---- the remainders of a cell
@@ -59,3 +60,27 @@ module _ (ps some : List IdPattern) (i : ℕ) (d : IdPattern) (within : i < leng
   left_out new cell is not_may at =
       ap (list_any (λ q. fits q t)) is ∙ so_far
       ∙ ap (λ b. b || list_any (λ q. fits q t) (take i ps)) (sym (never (get_or ps i d) t cell not_may at)) ∙ sym more
+
+-- ---- one cell more
+
+module _ (ps : List IdPattern) (x : Cell) where
+  at_end : (cs : List Cell) (d : Cell) → get_or (cs ++ x ∷ []) (length cs) d ≡ x
+  at_end [] d = refl
+  at_end (c ∷ cs) d = at_end cs d
+
+  before_end : (cs : List Cell) (k : ℕ) (d : Cell) → k < length cs → get_or (cs ++ x ∷ []) k d ≡ get_or cs k d
+  before_end [] k d l = absurd (omega (arith, l))
+  before_end (c ∷ cs) zero d l = refl
+  before_end (c ∷ cs) (suc k) d l = before_end cs k d (omega (arith, l))
+
+  pub one_more : (old new : List Cell) (n : ℕ) → length old ≡ n → ((k : ℕ) (d : Cell) → k < n → IsCell ps k (get_or old k d).patterns.items) → IsCell ps n x.patterns.items → new ≡ old ++ x ∷ [] →
+      (k : ℕ) (d : Cell) → k < n + 1 → IsCell ps k (get_or new k d).patterns.items
+  one_more old new n count before here e k d l = subst (λ (cs : List Cell). IsCell ps k (get_or cs k d).patterns.items) (sym e) (by (ltb k n) refl)
+    where
+      by : (b : Bool) → ltb k n ≡ b → IsCell ps k (get_or (old ++ x ∷ []) k d).patterns.items
+      by true t =
+          let less : k < n = grind (arith, t) in
+          subst (λ (c : Cell). IsCell ps k c.patterns.items) (sym (before_end old k d (omega (arith, count, less)))) (before k d less)
+      by false t =
+          let same : length old ≡ k = grind (arith, t, l, count) in let first : n ≡ k = omega (arith, same, count) in
+          subst (λ (c : Cell). IsCell ps k c.patterns.items) (sym (ap (λ i. get_or (old ++ x ∷ []) i d) (sym same) ∙ at_end old d)) (subst (λ i. IsCell ps i x.patterns.items) first here)

@@ -56,6 +56,19 @@ taken terms zero (suc room) old new t next b r e =
     ∙ append_assoc (map (triple_at terms) old) (x ∷ []) (take room next)
 taken terms (suc before) room old new t next b r e = absurd (omega arith)
 
+-- nothing is taken of nothing
+none_left : {X : Type 0} (room before : ℕ) → ◌≡◌ {A = List X} (take room (drop before [])) []
+none_left zero zero = refl
+none_left zero (suc before) = refl
+none_left (suc room) zero = refl
+none_left (suc room) (suc before) = refl
+
+pub all_taken : (taken : List Triple) (room before : ℕ) (next : List Triple) → next ≡ [] → taken ++ take room (drop before next) ≡ taken
+all_taken taken room before next e = ap (λ ys. taken ++ take room (drop before ys)) e ∙ ap (λ ys. taken ++ ys) (none_left room before) ∙ append-nil taken
+
+pub none_taken : (taken : List Triple) (room : ℕ) (next : List Triple) → room ≡ 0 → taken ++ take room next ≡ taken
+none_taken taken room next e = ap (λ n. taken ++ take n next) e ∙ append-nil taken
+
 pub some_room : (room : ℕ) → (room ≡ 0 → ⊥) → 0 < room
 some_room zero h = absurd (h refl)
 some_room (suc room) h = omega arith

@@ -1,6 +1,7 @@
 -- Rows that stand once, by what stands before them.
-use Rattle.std.proofs.Common.{Bor, ℕ, suc, ◌≡◌, ◌<◌, ◌+◌, Bool, true, false, not, cond, ◌&&◌, ◌||◌, List, [], ◌∷◌, ◌++◌, length, get_or, take, drop, Option, refl, ap, sym, ◌∙◌, append-nil, append_assoc, add-one}
+use Rattle.std.proofs.Common.{Bor, ℕ, suc, ◌≡◌, ◌<◌, ◌≤◌, ◌+◌, Bool, true, false, not, cond, ◌&&◌, ◌||◌, List, [], ◌∷◌, ◌++◌, length, get_or, take, drop, Option, refl, ap, sym, ◌∙◌, append-nil, append_assoc, add-one}
 use Rattle.std.proofs.Math.Seq.{drop-cons, take-suc}
+use Rattle.std.proofs.lemmas.List.{drop_all}
 use Rattle.std.specs.Prelude.{Vec}
 use Rattle.std.specs.BTreeSet.{BTreeSet}
 use Rattle.std.specs.List.{AllByRecursion, filter, list_any}
@@ -90,6 +91,10 @@ news_step same rows i r all flags flags' b below at is add before =
     let rest : drop i rows ≡ r ∷ drop (suc i) rows = drop-cons rows i r below ∙ ap (λ (x : Places). x ∷ drop (suc i) rows) (sym at) in
     let front : take (suc i) rows ≡ take i rows ++ r ∷ [] = take-suc rows i r below ∙ ap (λ (x : Places). take i rows ++ x ∷ []) (sym at) in
     rw (add-one, front, add, is, append_assoc) (before ∙ ap (λ (l : List Places). flags ++ news same (take i rows) l) rest)
+
+-- behind the last row
+pub news_all : (same : Places → Places → Bool) (rows : List Places) (i : ℕ) (all flags : List Bool) → length rows ≤ i → all ≡ flags ++ news same (take i rows) (drop i rows) → flags ≡ all
+news_all same rows i all flags past h = sym (append-nil flags) ∙ ap (λ (l : List Places). flags ++ news same (take i rows) l) (sym (drop_all i rows past)) ∙ sym h
 
 -- a set that has the keys of the rows before the next, and its key
 pub keys_step : {Z : Type 0} (names : List ℕ) (rows : List Places) (i : ℕ) (r : Places) (seen : BTreeSet (Vec (Option (Bor Term)) Z)) → i < length rows → r ≡ get_or rows i r → HasKeys names (take i rows ++ r ∷ []) seen → HasKeys names (take (i + 1) rows) seen

@@ -1,9 +1,9 @@
 -- Rows that are found by their places.
-use Rattle.std.proofs.Common.{Bor, ℕ, zero, suc, ◌≡◌, ◌<◌, ◌≤◌, ◌+◌, Bool, true, false, if◌then◌else◌, List, [], ◌∷◌, ◌++◌, length, get_or, take, Option, Some, None, slice_get, refl, ap, sym, ◌∙◌, arith}
+use Rattle.std.proofs.Common.{Bor, ℕ, zero, suc, ◌≡◌, ◌<◌, ◌≤◌, ◌+◌, Bool, true, false, if◌then◌else◌, List, [], ◌∷◌, ◌++◌, length, get_or, take, Option, Some, None, slice_get, refl, ap, sym, subst, ◌∙◌, arith}
 use Rattle.std.specs.List.{AllByRecursion}
 use Rattle.std.specs.Slice.{IsItemAt}
 use Rattle.std.proofs.lemmas.List.{flat_map_more, take_more}
-use Rattle.list_laws.proofs.Each.{all_so}
+use Rattle.list_laws.proofs.Each.{all_so, every_at}
 use Rattle.list_laws.proofs.Lists.{at_place}
 use Rattle.list_laws.proofs.Options.{none_not_some, some_same}
 use Rattle.bgp_core.specs.Solutions.{Places}
@@ -26,6 +26,10 @@ got {X} xs i (Some y) x h e = at_place xs i y.now h.3.0 h.1 ∙ ap (λ (z : Bor 
 pub got_none : {X : Type 0} (xs : List X) (i : ℕ) (r : Option (Bor X)) → IsItemAt xs i r → r ≡ None → slice_get xs i ≡ None
 got_none xs i None h e = past_places xs i h.3
 got_none xs i (Some y) h e = absurd (none_not_some (sym e))
+
+pub at_got : {X : Type 0} (P : X → Type 0) (xs : List X) (i : ℕ) (r : Option (Bor X)) (x : Bor X) → AllByRecursion P xs → IsItemAt xs i r → r ≡ Some x → P x.now
+at_got P xs i None x a h e = absurd (none_not_some e)
+at_got {X} P xs i (Some y) x a h e = subst (λ (z : Bor X). P z.now) (some_same e) (every_at P xs i y.now a h.3.0 h.1)
 
 -- one place more
 pub merges_more : (l : Places) (right : List Places) (places : List ℕ) (i : ℕ) (before old new : List Places) → i < length places → old ≡ before ++ merges_at l right (take i places) → new ≡ old ++ merge_with l (slice_get right (get_or places i 0)) → new ≡ before ++ merges_at l right (take (i + 1) places)

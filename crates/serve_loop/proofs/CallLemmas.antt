@@ -166,6 +166,10 @@ only_closes k a w c = record { closed = c.is_open; stays = record { sent = c.sen
 pub closes_by : (way : Way) (k : ℕ) (a w : WireState) → OnlyClosesOn k a w → ClosesOn way k a w
 closes_by way k a w c = record { closed = c.closed; moves = inl c.stays }
 
+-- the link was closed, and nothing else was called
+pub only_when_closed : (k : ℕ) (a w : WireState) → Closes k a w → CallsOnly k a w
+only_when_closed k a w d = record { only = d.only; idle = λ z. d.idle ∙ z }
+
 -- and the link was closed behind it
 pub closes_only : (k : ℕ) (a b w : WireState) → CallsOnly k a b → Closes k b w → CallsOnly k a w
 closes_only k a b w c d = let x = c.only in let y = d.only in let xf = x.later in let yf = y.later in record {

@@ -44,6 +44,13 @@ pub some_when : (xs : List ℕ) → false ≡ (length xs == 0) → xs ≡ [] →
 some_when [] e none = cc
 some_when (x ∷ xs) e none = cc
 
+pub none_long : (xs ys : List ℕ) → true ≡ (length xs == 0) → xs ≡ ys → ys ≡ []
+none_long xs ys e same = sym same ∙ none_when xs e
+
+pub some_long : (xs ys : List ℕ) → false ≡ (length xs == 0) → xs ≡ ys → 0 < length ys
+some_long [] ys e same = absurd cc
+some_long (x ∷ xs) ys e same = subst (λ (zs : List ℕ). 0 < length zs) same (omega arith)
+
 module _ {C Data Settings : Type 0} where
   -- the connection closes, and all was sent
   pub closing_step : (kind : Kind C Data Settings) (served : Serving Data Settings) (supply : SupplyState Data) (a b : WireState) (k : ℕ) (c : C)

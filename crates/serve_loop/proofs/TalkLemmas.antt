@@ -1,12 +1,13 @@
 -- What a call on a link does to its talk.
-use Rattle.std.proofs.Common.{ℕ, ◌≡◌, ◌<◌, ◌≤◌, inl, inr, ◌++◌, List, [], length, take, true, refl, sym, ◌∙◌, ap, subst, arith, append-nil}
+use Rattle.std.proofs.Common.{ℕ, ◌≡◌, ◌≢◌, Option, Some, None, Bool, ◌<◌, ◌≤◌, inl, inr, ◌++◌, List, [], length, take, true, refl, sym, ◌∙◌, ap, subst, arith, append-nil}
 use Rattle.std.specs.List.{AllByRecursion}
 use Rattle.std.proofs.lemmas.List.{length-take-le}
 use Rattle.std.specs.Io.KnownBytes.{append_known}
 use Rattle.list_laws.proofs.Each.{all_append, all_so}
 use Rattle.tpf_base.specs.Causes.{Rose}
 use Rattle.tpf_base.specs.declared.wire.Moved.TheVariants as answers
-use Rattle.tpf_base.specs.Links.{WireState}
+use Rattle.tpf_base.specs.Links.{Link, WireState, Tells, CountsAlone, SentAndReceived, All, told_by}
+use Rattle.tpf_base.specs.Sending.{Holds}
 use Rattle.tpf_base.specs.Calls.{Sends, Receives, Closes}
 use Rattle.tpf_base.specs.Marks.{Mark, Served, version_at}
 use Rattle.tpf_base.proofs.SendingLemmas.{holds_by, holds_same, holds_append}
@@ -24,6 +25,18 @@ use Rattle.serve_loop.proofs.CallLemmas.{receives_only}
 
 pub closes_as : (k j : ℕ) (a b : WireState) → j ≡ k → Closes j a b → Closes k a b
 closes_as k j a b e c = subst (λ (n : ℕ). Closes n a b) e c
+
+not_yet_is_no_want : answers.NotYet ≢ answers.OutOfMemory
+not_yet_is_no_want e = cc
+
+told_true : (told : Option Bool) (tells : Tells) → told ≡ told_by tells true → Holds told true
+told_true told CountsAlone e = λ x t. cc
+told_true told SentAndReceived e = λ x t. cc
+told_true told All e = λ x t. cc
+
+known_same : (o : Option (List ℕ)) → o ≡ append_known o []
+known_same None = refl
+known_same (Some xs) = ap (λ (ys : List ℕ). Some ys) (sym (append-nil xs))
 
 pub length_of_take : (n : ℕ) (xs : List ℕ) → n ≤ length xs → n ≡ length (take n xs)
 length_of_take n xs h = sym (length-take-le n xs h)
@@ -357,4 +370,52 @@ module _ {C Data Settings : Type 0} where
     not_yet = λ e. absurd cc;
     failed = λ e. absurd cc;
     starved = λ e. (take n buffer, m.2, omega (arith, m.1, few, length-take-le n buffer m.1));
+  }
+
+  pub hears_end : (kind : Kind C Data Settings) (served : Serving Data Settings) (k : ℕ) (old : C) (a b : WireState) (to : List ℕ) → Receives k to a b answers.End → Hears kind served k old old a b received.End
+  hears_end kind served k old a b to r = let m = r.end_ refl in record {
+    only = receives_only k to a b answers.End r;
+    sent = r.sent;
+    is_open = r.is_open;
+    fed = λ e. absurd cc;
+    end_ = λ e. (m.0, told_true (b.links k).ended a.nature.tells m.1, refl);
+    not_yet = λ e. absurd cc;
+    failed = λ e. absurd cc;
+    starved = λ e. absurd cc;
+  }
+
+  pub hears_not_yet : (kind : Kind C Data Settings) (served : Serving Data Settings) (k : ℕ) (old : C) (a b : WireState) (to : List ℕ) → Receives k to a b answers.NotYet → Hears kind served k old old a b received.NotYet
+  hears_not_yet kind served k old a b to r = let m = r.not_yet refl in let s = r.stalled not_yet_is_no_want in record {
+    only = receives_only k to a b answers.NotYet r;
+    sent = r.sent;
+    is_open = r.is_open;
+    fed = λ e. absurd cc;
+    end_ = λ e. absurd cc;
+    not_yet = λ e. (m.0, m.2, refl, s.0);
+    failed = λ e. absurd cc;
+    starved = λ e. absurd cc;
+  }
+
+  pub hears_failed : (kind : Kind C Data Settings) (served : Serving Data Settings) (k : ℕ) (old : C) (a b : WireState) (to : List ℕ) → Receives k to a b answers.Failed → Hears kind served k old old a b received.Failed
+  hears_failed kind served k old a b to r = let m = r.failed refl in record {
+    only = receives_only k to a b answers.Failed r;
+    sent = r.sent;
+    is_open = r.is_open;
+    fed = λ e. absurd cc;
+    end_ = λ e. absurd cc;
+    not_yet = λ e. absurd cc;
+    failed = λ e. (m.0, m.3, refl);
+    starved = λ e. absurd cc;
+  }
+
+  pub hears_memory : (kind : Kind C Data Settings) (served : Serving Data Settings) (k : ℕ) (old new : C) (a b : WireState) (to : List ℕ) → Receives k to a b answers.OutOfMemory → Hears kind served k old new a b received.Starved
+  hears_memory kind served k old new a b to r = let m = r.memory refl in record {
+    only = receives_only k to a b answers.OutOfMemory r;
+    sent = r.sent;
+    is_open = r.is_open;
+    fed = λ e. absurd cc;
+    end_ = λ e. absurd cc;
+    not_yet = λ e. absurd cc;
+    failed = λ e. absurd cc;
+    starved = λ e. ([], ap (λ (l : Link). l.received) (m.links k) ∙ known_same (a.links k).received, omega arith);
   }

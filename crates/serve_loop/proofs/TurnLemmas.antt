@@ -151,6 +151,26 @@ ends_one_by stepped.Still e = cc
 ends_one_by stepped.Ended e = refl
 ends_one_by stepped.Starved e = refl
 
+ended_one : (answer : Stepped) → true ≡ ends answer → (turned_by (Some answer)).ended ≡ 1
+ended_one stepped.Moved e = cc
+ended_one stepped.Still e = cc
+ended_one stepped.Ended e = refl
+ended_one stepped.Starved e = refl
+
+ended_none : (answer : Stepped) → false ≡ ends answer → (turned_by (Some answer)).ended ≡ 0
+ended_none stepped.Moved e = refl
+ended_none stepped.Still e = refl
+ended_none stepped.Ended e = cc
+ended_none stepped.Starved e = cc
+
+module _ {T : Type 0} where
+  -- the other keys after a step that stays, and after one that ends
+  pub others_written : (s : Slab T) (key : ℕ) (x y : T) → get s key ≡ Some x → (other : ℕ) → other ≢ key → get (with_value s key y) other ≡ get s other
+  others_written s key x y e other n = written s key x y e other ∙ there (get s) key (Some y) other n
+
+  pub others_taken : (s u : Slab T) (key : ℕ) (x y : T) → get s key ≡ Some x → Updates (with_value s key y) u key None → (other : ℕ) → other ≢ key → get u other ≡ get s other
+  others_taken s u key x y e h other n = taken_out s u key x y e h other ∙ there (get s) key None other n
+
 module _ {C : Type 0} where
   pub stays_left : (answer : Stepped) (l : Live C) → false ≡ ends answer → left_by answer l ≡ Some l
   stays_left stepped.Moved l e = refl
@@ -163,6 +183,10 @@ module _ {C : Type 0} where
   none_left stepped.Still l e = cc
   none_left stepped.Ended l e = refl
   none_left stepped.Starved l e = refl
+
+  -- nothing is left behind a step that ended
+  pub gone_by : (answer end_ : Stepped) (l x : Live C) → answer ≡ end_ → left_by end_ l ≡ None → left_by answer l ≡ Some x → ⊥
+  gone_by answer end_ l x e none left = none_some x (sym none ∙ (ap (λ (a : Stepped). left_by a l) (sym e) ∙ left))
 
   -- the slab after a step that stays, and after one that ends
   pub written_by : (s : Slab (Live C)) (key : ℕ) (l l' : Live C) (answer : Stepped) → get s key ≡ Some l → false ≡ ends answer
@@ -178,6 +202,15 @@ module _ {C : Type 0} where
 
   pub taken_fewer : (s u : Slab (Live C)) (key : ℕ) (l l' : Live C) (answer : Stepped) → true ≡ ends answer → slab_len u + 1 ≡ slab_len s → slab_len u + ended_by answer ≡ slab_len s
   taken_fewer s u key l l' answer e h = let n = ends_one_by answer e in omega (arith, n, h)
+
+  -- the same as a turn counts it
+  pub fewer_written : (s : Slab (Live C)) (key : ℕ) (l l' : Live C) (answer : Stepped) → false ≡ ends answer → get s key ≡ Some l
+      → slab_len (with_value s key l') + (turned_by (Some answer)).ended ≡ slab_len s
+  fewer_written s key l l' answer e found = let w = written_len s key l l' found in let n = ended_none answer e in omega (arith, w, n)
+
+  pub fewer_taken : (s u : Slab (Live C)) (key : ℕ) (l l' : Live C) (result : Option (Live C)) (answer : Stepped) → true ≡ ends answer → get s key ≡ Some l → result ≡ get (with_value s key l') key
+      → OnSome result (slab_len u + 1 ≡ slab_len (with_value s key l')) → slab_len u + (turned_by (Some answer)).ended ≡ slab_len s
+  fewer_taken s u key l l' result answer e found removed fewer = let h = fewer_by_one s u key l l' result found removed fewer in let n = ended_one answer e in omega (arith, n, h)
 
   left_is : (l x : Live C) (answer : Stepped) → left_by answer l ≡ Some x → (left_by answer l ≡ Some l) × (x ≡ l)
   left_is l x stepped.Moved e = (refl, cc)

@@ -9,6 +9,7 @@ use Rattle.std.proofs.lemmas.List.{take-append-drop}
 use Rattle.std.proofs.lemmas.Str.Pattern.{NoCharPasses-char, drop_at_char}
 use Rattle.std.specs.Str.Pattern.{RFindsChar, SplitsAroundMatch}
 use Rattle.list_laws.proofs.Bytes.{cons_utf8}
+use Rattle.list_laws.proofs.Tests.{not_equal}
 use Rattle.rdf_terms.proofs.Tags.{lower_all}
 use Rattle.list_laws.proofs.Tests.{and_first, and_second}
 use Rattle.rdf_terms.specs.Iri.{is_iri, is_iri_byte, is_letter}
@@ -29,14 +30,11 @@ use Rattle.template_fill.specs.Explicit.{Gives, ReadsBack, FormsAreText, FormsAr
 use Rattle.template_fill.proofs.Passing.{list_all-get, list_all-wider}
 use Rattle.std.proofs.lemmas.Bool.{and_from, not-true}
 
-other : (b c : ℕ) → (b ≡ c → ⊥) → (b == c) ≡ false
-other b c h = grind (arith, nat_tests)
-
 -- ---- first bytes
 
 pub marked-none : (form rest : List ℕ) → ((more : List ℕ) → rest ≡ 94 ∷ more → ⊥) → marked_literal form rest ≡ Err faults.Suffix
 marked-none form [] none = refl
-marked-none form (b ∷ rest) none = rw (other b 94 (λ is. none rest (ap (λ x. x ∷ rest) is))) refl
+marked-none form (b ∷ rest) none = rw (not_equal b 94 (λ is. none rest (ap (λ x. x ∷ rest) is))) refl
 
 pub marked-some : (form rest datatype : List ℕ) → rest ≡ 94 ∷ datatype → marked_literal form rest ≡ typed_literal form datatype
 marked-some form rest datatype is = rw is refl
@@ -53,11 +51,11 @@ suffixed-marked form rest more is = rw is refl
 
 pub suffixed-none : (form rest : List ℕ) → false ≡ (length rest == 0) → ((more : List ℕ) → rest ≡ 64 ∷ more → ⊥) → ((more : List ℕ) → rest ≡ 94 ∷ more → ⊥) → suffixed_literal form rest ≡ Err faults.Suffix
 suffixed-none form [] some tag datatype = absurd (cc)
-suffixed-none form (b ∷ rest) some tag datatype = rw (other b 64 (λ is. tag rest (ap (λ x. x ∷ rest) is)), other b 94 (λ is. datatype rest (ap (λ x. x ∷ rest) is))) refl
+suffixed-none form (b ∷ rest) some tag datatype = rw (not_equal b 64 (λ is. tag rest (ap (λ x. x ∷ rest) is)), not_equal b 94 (λ is. datatype rest (ap (λ x. x ∷ rest) is))) refl
 
 pub slot-iri : (text : List ℕ) → false ≡ (length text == 0) → (get_or text 0 0 ≡ 63 → ⊥) → ((rest : List ℕ) → text ≡ 34 ∷ rest → ⊥) → slot_of text ≡ fixed (read_iri text)
 slot-iri [] some free quote = absurd (cc)
-slot-iri (b ∷ rest) some free quote = rw (other b 63 free, other b 34 (λ is. quote rest (ap (λ x. x ∷ rest) is))) refl
+slot-iri (b ∷ rest) some free quote = rw (not_equal b 63 free, not_equal b 34 (λ is. quote rest (ap (λ x. x ∷ rest) is))) refl
 
 -- ---- faults handed on
 
@@ -79,7 +77,7 @@ pub cut_last-none : (bytes : List ℕ) → ((i : ℕ) → i < length bytes → g
 cut_last-none [] none = refl
 cut_last-none (b ∷ bytes) none =
     let rest = cut_last-none bytes (λ i within is. none (i + 1) (omega arith) (rw add-one is)) in
-    rw (rest, other b 34 (none 0 (omega arith))) refl
+    rw (rest, not_equal b 34 (none 0 (omega arith))) refl
 
 pub cut_last-at : (form rest : List ℕ) → cut_last 34 rest ≡ None → cut_last 34 (form ++ 34 ∷ rest) ≡ Some (form, rest)
 cut_last-at [] rest none = rw none refl
@@ -178,7 +176,7 @@ iri-back : (text : List ℕ) → is_iri text ≡ true → slot_of text ≡ Ok (F
 iri-back [] h = absurd (cc)
 iri-back (b ∷ rest) h =
     let letter = and_first (is_letter b) _ (and_second (list_all is_iri_byte (b ∷ rest)) _ h) in
-    unmarked b rest (other b 63 (letter-not b 63 refl letter)) (other b 34 (letter-not b 34 refl letter)) ∙ ap fixed (valid-iri (b ∷ rest) h)
+    unmarked b rest (not_equal b 63 (letter-not b 63 refl letter)) (not_equal b 34 (letter-not b 34 refl letter)) ∙ ap fixed (valid-iri (b ∷ rest) h)
 
 read-back : (form : List ℕ) (kind : Kind) → IsValidKind kind → read_literal (form ++ 34 ∷ suffix kind) ≡ Ok (Literal form kind)
 unfolding read_literal

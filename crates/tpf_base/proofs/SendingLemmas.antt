@@ -36,7 +36,10 @@ only_same k a = record {
   nature = refl;
 }
 
--- the same replies are allowed after two calls
+-- the same replies are allowed after no call, and after two
+pub allowed_same : (allows : List ℕ → ℕ → List ℕ → List ℕ → Type 0) → SameAllowed allows allows
+allowed_same allows = λ host port sent owed. (λ h. h, λ h. h)
+
 pub allowed_then : {a b c : List ℕ → ℕ → List ℕ → List ℕ → Type 0} → SameAllowed a b → SameAllowed b c → SameAllowed a c
 allowed_then p q = λ host port sent owed. (λ x. (p host port sent owed).0 ((q host port sent owed).0 x), λ x. (q host port sent owed).1 ((p host port sent owed).1 x))
 

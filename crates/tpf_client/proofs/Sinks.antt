@@ -1,6 +1,7 @@
 -- What is left of a sink, one part of a call after another.
 use Rattle.std.proofs.Common.{ℕ, ◌≡◌, ◌≤◌, ◌∙◌, List, refl, sym, ap, subst, arith}
 use Rattle.std.specs.Prelude.{Result, Ok, Err, OnOk, IsErrOf}
+use Rattle.list_laws.proofs.Tests.{same_least}
 use Rattle.tpf_base.specs.Causes.{Rose, HasCause, DoesNotFail}
 use Rattle.tpf_base.specs.Wrote.{SinkState, WritesWhole}
 use Rattle.tpf_base.specs.declared.fault.Fault.{Fault}
@@ -57,19 +58,16 @@ keeps-behind a b c r s k = record {
   spared = λ h. subst (λ (n : ℕ). DoesNotFail n c.faults r) s.faults (k.spared (s.faultless ∙ h));
 }
 
-same-later : (m n : ℕ) → n ≡ m → m ≤ n
-same-later m n e = omega (arith, e)
-
 pub keeps-ok : {T : Type 0} (a b : SinkState) (x : T) → StaysSink a b → KeepsSink a b (Ok x)
 keeps-ok a b x s = record {
-  cause = record { later = same-later a.faults b.faults s.faults; success = s.faults; failed = λ e. absurd (ok-no-err x failures.Failed e); memory = λ e. s.faults };
+  cause = record { later = same_least a.faults b.faults s.faults; success = s.faults; failed = λ e. absurd (ok-no-err x failures.Failed e); memory = λ e. s.faults };
   faultless = s.faultless;
   spared = λ h. record { same = s.faults; answer = λ e. cc };
 }
 
 pub keeps-memory : {T : Type 0} (a b : SinkState) → StaysSink a b → KeepsSink {T = T} a b (Err failures.OutOfMemory)
 keeps-memory a b s = record {
-  cause = record { later = same-later a.faults b.faults s.faults; success = tt; failed = λ e. absurd (lacking-no-fail e); memory = λ e. s.faults };
+  cause = record { later = same_least a.faults b.faults s.faults; success = tt; failed = λ e. absurd (lacking-no-fail e); memory = λ e. s.faults };
   faultless = s.faultless;
   spared = λ h. record { same = s.faults; answer = λ e. cc };
 }
@@ -105,7 +103,7 @@ leaves-before {T} a b c r l s = record {
 
 pub leaves-ok : {T : Type 0} (a b : SinkState) (x : T) → StaysSink a b → LeavesSink a b (Ok x)
 leaves-ok a b x s = record {
-  later = same-later a.faults b.faults s.faults;
+  later = same_least a.faults b.faults s.faults;
   success = s.faults;
   sink = λ e. absurd (ok-no-err x faults.Sink e);
   faultless = s.faultless;
@@ -115,7 +113,7 @@ leaves-ok a b x s = record {
 -- a fault that is not the sink's
 pub leaves-other : {T : Type 0} (a b : SinkState) (x : ClientFault) → (IsErrOf {T = T} (Err x) faults.Sink → ⊥) → StaysSink a b → LeavesSink {T = T} a b (Err x)
 leaves-other a b x other s = record {
-  later = same-later a.faults b.faults s.faults;
+  later = same_least a.faults b.faults s.faults;
   success = tt;
   sink = λ e. absurd (other e);
   faultless = s.faultless;

@@ -20,9 +20,6 @@ empty-list (x ∷ xs) e = cc
 pub none-held : (xs ys : List Ask) → IsPermutation xs ys → ys ≡ [] → xs ≡ []
 none-held xs ys p e = empty-list xs (sym (length_permutation xs ys p) ∙ ap (λ (l : List Ask). length l) e)
 
-pub same-allowed : (a : List ℕ → ℕ → List ℕ → List ℕ → Type 0) → SameAllowed a a
-same-allowed a = λ h p s o. (λ x. x, λ x. x)
-
 pub allowed-then : (a b c : List ℕ → ℕ → List ℕ → List ℕ → Type 0) → SameAllowed a b → SameAllowed b c → SameAllowed a c
 allowed-then a b c p q = λ h n s o. (λ x. (p h n s o).0 ((q h n s o).0 x), λ x. (q h n s o).1 ((p h n s o).1 x))
 

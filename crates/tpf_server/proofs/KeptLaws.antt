@@ -1,8 +1,11 @@
 -- What a connection keeps where heads were read, and where bytes were made.
-use Rattle.std.proofs.Common.{◌≡◌, ℕ, ◌+◌, ◌-◌, ◌≤◌, ◌⊎◌, Bool, true, false, List, [], ◌∷◌, ◌++◌, length, take, drop, None, refl, ap, sym, subst, ◌∙◌, arith, length-append, length-drop, length-take}
+use Rattle.std.proofs.Common.{◌≡◌, ℕ, ◌+◌, ◌-◌, ◌≤◌, ◌⊎◌, Bool, true, false, List, [], ◌∷◌, ◌++◌, length, take, drop, None, Result, Ok, Err, refl, ap, sym, subst, ◌∙◌, arith, length-append, length-drop, length-take}
+use Rattle.std.specs.Prelude.{OnOk, is_err}
 use Rattle.std.specs.List.{AllByRecursion}
 use Rattle.std.proofs.lemmas.Bool.{true≢false}
+use Rattle.std.proofs.lemmas.List.{drop-append-le}
 use Rattle.list_laws.specs.Begins.{Begins}
+use Rattle.list_laws.proofs.Begins.{more_begins}
 use Rattle.list_laws.proofs.Each.{all_append}
 use Rattle.tpf_base.specs.declared.limits.TheConstants.{ENOUGH_PENDING}
 use Rattle.http_wire.specs.Requests.{Held, holding}
@@ -104,3 +107,13 @@ few_taken n old new is few = omega (arith, few, ap (λ (l : List ℕ). length l)
 pub few_view : (unread : List ℕ) (reading : Reading) (rest : Rest) (waiting : List Queued) (given : ℕ) (bytes : List ℕ) (starved : Bool) (old : Conversation)
     → record { unread = unread; reading = reading; rest = rest; waiting = waiting; pending = drop given bytes; starved = starved } ≡ old → length bytes - given ≤ MOST_PENDING → length old.pending ≤ MOST_PENDING
 few_view unread reading rest waiting given bytes starved old same few = few_pending given bytes old.pending (ap (λ (c : Conversation). c.pending) same) few
+
+-- behind the bytes that were taken only more stand
+pub begins_behind : (given : ℕ) (bytes made pending : List ℕ) → drop given bytes ≡ pending → given + given ≤ length bytes → Begins bytes made → Begins pending (drop given made)
+begins_behind given bytes made pending is half front =
+    more_begins pending (drop given made) front.more (ap (drop given) front.same ∙ drop-append-le given bytes front.more (omega (arith, half)) ∙ ap (λ (l : List ℕ). l ++ front.more) is)
+
+-- what is told of a success, where there is none
+pub on_ok_failed : {T E : Type 0} (r : Result T E) (P : Type 0) → is_err r ≡ true → OnOk r P
+on_ok_failed (Ok x) P failed = absurd (true≢false (sym failed))
+on_ok_failed (Err e) P failed = tt

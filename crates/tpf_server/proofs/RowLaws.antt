@@ -3,6 +3,7 @@ use Rattle.std.proofs.Common.{◌≡◌, ℕ, suc, ◌+◌, ◌≤◌, Bool, tru
 use Rattle.std.specs.Prelude.{codes, bytes_eq, nat_le, IfSome}
 use Rattle.std.specs.List.{filter}
 use Rattle.std.specs.Str.{is_utf8}
+use Rattle.std.proofs.lemmas.Grind.{common_steps}
 use Rattle.percent_encoding.specs.Percent.{percent_decode}
 use Rattle.list_laws.proofs.Lists.{snoc_append}
 use Rattle.rdf_terms.specs.declared.slots.Slots.{Slots}
@@ -132,3 +133,15 @@ all_rows true pairs =
     ∙ values_read [] values (omega arith)
     ∙ ap (λ (n : ℕ). read_behind [] (nat_le n MOST_ROWS) values) same
     ∙ ap rows_found (joined_none (few_rows_of values))
+
+-- ---- one row more
+
+below_limit : (m n : ℕ) → n + 1 ≤ m → nat_le m n ≡ false
+below_limit m n h = grind (arith, common_steps)
+
+pub row_beyond : (rows : List Slots) (value : List ℕ) → MOST_ROWS ≤ length rows → Refused ≡ row_noted (Read rows) value
+row_beyond rows value many = sym (ap (λ (b : Bool). if b then Refused else row_added rows (row_of value)) (le-leb MOST_ROWS (length rows) many))
+
+pub one_row_more : (rows : List Slots) (value : List ℕ) (row : Option Slots) → length rows + 1 ≤ MOST_ROWS → row ≡ row_of value → row_added rows row ≡ row_noted (Read rows) value
+one_row_more rows value row few is =
+    ap (row_added rows) is ∙ sym (ap (λ (b : Bool). if b then Refused else row_added rows (row_of value)) (below_limit MOST_ROWS (length rows) few))

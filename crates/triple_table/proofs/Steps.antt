@@ -2,7 +2,7 @@
 use Rattle.std.proofs.Common.{ℕ, ◌≡◌, ◌+◌, ◌<◌, List, [], ◌∷◌, ◌++◌, sym, ap, ◌∙◌, length, get_or, take, map}
 use Rattle.std.specs.Prelude.{Option}
 use Rattle.std.specs.List.{filter_map}
-use Rattle.std.proofs.lemmas.List.{take_more, map-append}
+use Rattle.std.proofs.lemmas.List.{map_more, take_more, map-append}
 use Rattle.std.proofs.lemmas.List.Concat.{flat_map-append}
 use Rattle.std.proofs.lemmas.List.Elements.{filter-append, filter_map-append}
 use Rattle.rdf_terms.specs.declared.term.Term.{Term}
@@ -36,3 +36,7 @@ pub triples_more : (f : Triple → Triple) (old new : List Triple) (choice : Cho
     new ≡ old ++ map f (chosen choice (quad ∷ [])) → old ≡ map f (chosen choice (take i quads)) → new ≡ map f (chosen choice (take (i + 1) quads))
 triples_more f old new choice quads i quad l e n o =
     n ∙ ap (λ ts. ts ++ map f (chosen choice (quad ∷ []))) o ∙ sym (ap (map f) (chosen_more choice quads i quad l e) ∙ map-append f _ _)
+
+-- the image of one element more
+pub images_more : {X Y : Type 0} (f : X → Y) (from : List X) (i : ℕ) (d : X) (now new : List Y) (y : Y) → i < length from → y ≡ f (get_or from i d) → now ≡ map f (take i from) → new ≡ now ++ y ∷ [] → new ≡ map f (take (i + 1) from)
+images_more f from i d now new y l same e h = h ∙ ap (λ ys. ys ++ y ∷ []) e ∙ ap (λ z. map f (take i from) ++ z ∷ []) same ∙ sym (map_more f from i d l)

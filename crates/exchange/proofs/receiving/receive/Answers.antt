@@ -12,11 +12,17 @@ moved_able n e = cc
 not_yet_able : answers.NotYet ≡ answers.OutOfMemory → ⊥
 not_yet_able e = cc
 
+pub recv-requires-clause-is_open : goal.recv-requires-clause-is_open
+recv-requires-clause-is_open g c = c.loop-n.invariant.comes.calls.is_open ∙ c.requires.is_open
+
 pub slice_bounds-read-end : goal.slice_bounds-read-end
 slice_bounds-read-end g c = (c.in-Moved.ensures.receives.moved c.in-Moved.n refl).1
 
 pub slice_bounds-read-end-in-Moved : goal.slice_bounds-read-end-in-Moved
 slice_bounds-read-end-in-Moved g c = sym (length-take-le _ _ (c.in-Moved.ensures.receives.moved c.in-Moved.n refl).1)
+
+pub read-requires-clause-goes_on : goal.read-requires-clause-goes_on
+read-requires-clause-goes_on g c = c.loop-n.invariant.goes_on
 
 pub loop-n-smaller : goal.loop-n-smaller
 loop-n-smaller g c =
@@ -46,14 +52,26 @@ pub returns-in-Ok-false-clause-end_ : goal.returns-in-Ok-false-clause-end_
 returns-in-Ok-false-clause-end_ g c =
     (c.in-Ok-false.ensures.goes_on ∙ c.in-Ok-false.field-0-test, (c.in-Moved.ensures.receives.moved c.in-Moved.n refl).4, (c.in-Moved.ensures.receives.stalled (moved_able c.in-Moved.n)).0)
 
+pub returns-in-Ok-false-clause-allowed : goal.returns-in-Ok-false-clause-allowed
+returns-in-Ok-false-clause-allowed g c = allowed_then c.loop-n.invariant.allowed c.in-Moved.ensures.allowed
+
 pub returns-in-Err-clause-receives : goal.returns-in-Err-clause-receives
 returns-in-Err-clause-receives g c = (_, received_lost _ _ _ _ _ _ _ _ _ c.loop-n.invariant.comes c.in-Moved.ensures.receives c.in-Err.ensures.err, λ h. absurd (h refl))
+
+pub returns-in-Err-clause-end_ : goal.returns-in-Err-clause-end_
+returns-in-Err-clause-end_ g c = ap (λ i. is_open i.place) c.in-Err.ensures.err ∙ c.loop-n.invariant.goes_on
+
+pub returns-in-Err-clause-allowed : goal.returns-in-Err-clause-allowed
+returns-in-Err-clause-allowed g c = allowed_then c.loop-n.invariant.allowed c.in-Moved.ensures.allowed
 
 pub returns-in-End-clause-receives : goal.returns-in-End-clause-receives
 returns-in-End-clause-receives g c = ([], received_stop _ _ _ _ _ _ _ _ c.loop-n.invariant.comes c.in-End.ensures.receives (c.in-End.ensures.receives.end_ refl).0, λ h. refl)
 
 pub returns-in-End-clause-end_ : goal.returns-in-End-clause-end_
 returns-in-End-clause-end_ g c = let e = c.in-End.ensures.receives.end_ refl in (c.loop-n.invariant.goes_on, e.2, told_holds _ _ _ e.1, end_rose _ _ _ _ _ c.loop-n.invariant.comes.calls c.in-End.ensures.receives, end_not_due _ _ _ _ _ c.loop-n.invariant.comes.calls c.in-End.ensures.receives)
+
+pub returns-in-End-clause-allowed : goal.returns-in-End-clause-allowed
+returns-in-End-clause-allowed g c = allowed_then c.loop-n.invariant.allowed c.in-End.ensures.allowed
 
 pub returns-in-NotYet-clause-receives : goal.returns-in-NotYet-clause-receives
 returns-in-NotYet-clause-receives g c = ([], received_stop _ _ _ _ _ _ _ _ c.loop-n.invariant.comes c.in-NotYet.ensures.receives (c.in-NotYet.ensures.receives.not_yet refl).0, λ h. refl)
@@ -67,32 +85,23 @@ returns-in-NotYet-clause-end_ g c = (
   woken_received _ _ _ _ _ _ _ c.loop-n.invariant.up c.loop-n.invariant.moved c.loop-n.invariant.still c.in-NotYet.ensures.receives,
 )
 
-pub returns-in-Failed-clause-end_ : goal.returns-in-Failed-clause-end_
-returns-in-Failed-clause-end_ g c = (c.loop-n.invariant.goes_on, failed_rose _ _ _ _ _ c.loop-n.invariant.comes.calls c.in-Failed.ensures.receives, receive_not_due _ _ _ _ _ c.loop-n.invariant.comes.calls c.in-Failed.ensures.receives)
+pub returns-in-NotYet-clause-allowed : goal.returns-in-NotYet-clause-allowed
+returns-in-NotYet-clause-allowed g c = allowed_then c.loop-n.invariant.allowed c.in-NotYet.ensures.allowed
 
 pub returns-in-Failed-clause-receives : goal.returns-in-Failed-clause-receives
 returns-in-Failed-clause-receives g c = ([], received_stop _ _ _ _ _ _ _ _ c.loop-n.invariant.comes c.in-Failed.ensures.receives (c.in-Failed.ensures.receives.failed refl).0, λ h. refl)
 
-pub returns-in-OutOfMemory-clause-receives : goal.returns-in-OutOfMemory-clause-receives
-returns-in-OutOfMemory-clause-receives g c = ([], received_stop _ _ _ _ _ _ _ _ c.loop-n.invariant.comes c.in-OutOfMemory.ensures.receives (ap (λ l. l.received) ((c.in-OutOfMemory.ensures.receives.memory refl).links c.args.link)), λ h. refl)
-
-pub returns-in-Err-clause-end_ : goal.returns-in-Err-clause-end_
-returns-in-Err-clause-end_ g c = ap (λ i. is_open i.place) c.in-Err.ensures.err ∙ c.loop-n.invariant.goes_on
-
-pub returns-in-NotYet-clause-allowed : goal.returns-in-NotYet-clause-allowed
-returns-in-NotYet-clause-allowed g c = allowed_then c.loop-n.invariant.allowed c.in-NotYet.ensures.allowed
-
-pub returns-in-OutOfMemory-clause-allowed : goal.returns-in-OutOfMemory-clause-allowed
-returns-in-OutOfMemory-clause-allowed g c = allowed_then c.loop-n.invariant.allowed c.in-OutOfMemory.ensures.allowed
+pub returns-in-Failed-clause-end_ : goal.returns-in-Failed-clause-end_
+returns-in-Failed-clause-end_ g c = (c.loop-n.invariant.goes_on, failed_rose _ _ _ _ _ c.loop-n.invariant.comes.calls c.in-Failed.ensures.receives, receive_not_due _ _ _ _ _ c.loop-n.invariant.comes.calls c.in-Failed.ensures.receives)
 
 pub returns-in-Failed-clause-allowed : goal.returns-in-Failed-clause-allowed
 returns-in-Failed-clause-allowed g c = allowed_then c.loop-n.invariant.allowed c.in-Failed.ensures.allowed
 
-pub returns-in-End-clause-allowed : goal.returns-in-End-clause-allowed
-returns-in-End-clause-allowed g c = allowed_then c.loop-n.invariant.allowed c.in-End.ensures.allowed
+pub returns-in-OutOfMemory-clause-receives : goal.returns-in-OutOfMemory-clause-receives
+returns-in-OutOfMemory-clause-receives g c = ([], received_stop _ _ _ _ _ _ _ _ c.loop-n.invariant.comes c.in-OutOfMemory.ensures.receives (ap (λ l. l.received) ((c.in-OutOfMemory.ensures.receives.memory refl).links c.args.link)), λ h. refl)
 
-pub returns-in-Ok-false-clause-allowed : goal.returns-in-Ok-false-clause-allowed
-returns-in-Ok-false-clause-allowed g c = allowed_then c.loop-n.invariant.allowed c.in-Moved.ensures.allowed
+pub returns-in-OutOfMemory-clause-end_ : goal.returns-in-OutOfMemory-clause-end_
+returns-in-OutOfMemory-clause-end_ g c = c.loop-n.invariant.goes_on
 
-pub returns-in-Err-clause-allowed : goal.returns-in-Err-clause-allowed
-returns-in-Err-clause-allowed g c = allowed_then c.loop-n.invariant.allowed c.in-Moved.ensures.allowed
+pub returns-in-OutOfMemory-clause-allowed : goal.returns-in-OutOfMemory-clause-allowed
+returns-in-OutOfMemory-clause-allowed g c = allowed_then c.loop-n.invariant.allowed c.in-OutOfMemory.ensures.allowed

@@ -1,13 +1,27 @@
+-- What is taken is what the page made of the node that waited; where memory runs out, nothing is.
 use Rattle.std.proofs.Common.{ℕ, ◌≡◌, Some, List, inl, inr, map, set, refl, ap, sym, subst, ◌∙◌}
 use Rattle.std.specs.Map.{lookup}
-use Rattle.std.proofs.lemmas.Result.{on_ok_weaker}
 use Rattle.join_core.specs.declared.first.First.TheVariants.{Got}
 use Rattle.join_core.specs.Nodes.{NodeData}
 use Rattle.join_core.specs.Events.{with_first_at}
 use Rattle.join_core.specs.Levels.{LevelData, seed_node, nodes_of, plain, index_at, spot, is_key, MaySettle, TakesMade}
 use Rattle.join_core.proofs.Kept.{first-settles}
 use Rattle.join_core.proofs.Plain.{asked-level, found-level, same-set, set-level, level-is}
+use Rattle.std.proofs.lemmas.Result.{IfOk-from_err, on_ok_weaker}
+use Rattle.list_laws.proofs.Results.{any_err}
 use Rattle.join_core.proofs.levels.take_first.Goals as goal
+
+pub take_first-requires : goal.take_first-requires
+take_first-requires c = (c.requires.waiter, found-level c.args.levels.now.items c.args.first.place.depth c.args.first.place.key c.index_mut.result.now c.requires.waiter c.requires.deep c.index_mut.ensures.value c.requires.found, c.requires.waits)
+
+pub returns-in_err-take_first-clause-taken : goal.returns-in_err-take_first-clause-taken
+returns-in_err-take_first-clause-taken c = λ n e. IfOk-from_err _ _ c.from_residual.ensures.0
+
+pub returns-in_err-take_first-clause-failed : goal.returns-in_err-take_first-clause-failed
+returns-in_err-take_first-clause-failed c = any_err c.from_residual.result _ (same-set c.args.levels.now.items c.args.first.place.depth c.index_mut.result.now c.take_first.new.self c.requires.deep c.index_mut.ensures.value (ap (λ (l : LevelData). nodes_of l) c.in_err-take_first.ensures.failed))
+
+pub returns-in_err-take_first-clause-failed_rows : goal.returns-in_err-take_first-clause-failed_rows
+returns-in_err-take_first-clause-failed_rows c = any_err c.from_residual.result _ refl
 
 pub take_made-requires-clause-waits : goal.take_made-requires-clause-waits
 take_made-requires-clause-waits c =
@@ -18,6 +32,9 @@ take_made-requires-clause-waits c =
     let full = rw c.in-Some.is at (c.in_ok-take_first.ensures.full c.requires.waiter e) in
     let settles : MaySettle l.started c.args.first.place.key c.args.ticket = first-settles l.started c.args.first.place.key c.args.ticket c.args.first.index c.args.page c.requires.waiter e c.requires.waits full.0 in
     subst (λ (x : LevelData). MaySettle x.started c.args.first.place.key c.args.ticket) (sym full.1 ∙ sym (set-level ls d c.take_first.new.self c.requires.deep)) settles
+
+pub take_made-requires-clause-idle : goal.take_made-requires-clause-idle
+take_made-requires-clause-idle c = rw c.in-Some.is at c.in_ok-take_first.ensures.idle
 
 pub returns-in-None-clause-taken : goal.returns-in-None-clause-taken
 returns-in-None-clause-taken c = λ n g.
@@ -55,3 +72,6 @@ returns-in-Some-clause-taken c = λ n g.
       },
     ))
     c.take_made.ensures.done
+
+pub returns-in-Some-clause-failed_rows : goal.returns-in-Some-clause-failed_rows
+returns-in-Some-clause-failed_rows c = c.take_made.ensures.failed_rows

@@ -1,30 +1,100 @@
-use Rattle.std.proofs.Common.{rules, ◌≡◌, List, length, map, sym, subst}
+-- What the page makes is what its calls give, one after another; where one runs out of memory, nothing is made.
+use Rattle.std.proofs.Common.{◌≡◌, List, length, map, ◌++◌, ap, sym, subst, ◌∙◌}
 use Rattle.std.specs.List.{All}
+use Rattle.rdf_terms.specs.declared.term.Triple.{Triple}
 use Rattle.bgp_core.specs.declared.pattern.Pattern.{Pattern}
 use Rattle.bgp_core.specs.Queries.{HasPlacesFor}
 use Rattle.bgp_core.specs.Solutions.{Places}
 use Rattle.request_plan.specs.Blocks.{forms_cut}
 use Rattle.request_plan.specs.Plans.{found, HavePlacesFor}
-use Rattle.join_core.specs.Nodes.{opened}
+use Rattle.join_core.specs.Nodes.{opened, nodes_in, rows_out}
 use Rattle.join_core.specs.Events.{next_walk}
-use Rattle.join_core.specs.Levels.{seed_node}
+use Rattle.join_core.specs.Levels.{Seed, seed_node}
 use Rattle.request_plan.proofs.Valid.{found-places}
 use Rattle.join_core.proofs.Outs.{made-idle}
+use Rattle.std.proofs.lemmas.Result.{IfOk-from_err}
 use Rattle.join_core.proofs.making.made_of_held.Goals as goal
 
 pub expand_held-requires : goal.expand_held-requires
 expand_held-requires c =
-    let value : c.deref.result.now ≡ c.args.chosen.now.value = search rules in
-    subst (λ (p : Pattern). All (λ row. HasPlacesFor (length row) p) c.args.rows.now) (sym value) c.requires.chosen
+    subst (λ (p : Pattern). All (λ row. HasPlacesFor (length row) p) c.args.rows.now) (sym c.deref.ensures) c.requires.chosen
+
+pub returns-in_err-found-clause-opened : goal.returns-in_err-found-clause-opened
+returns-in_err-found-clause-opened c = IfOk-from_err _ _ c.from_residual.ensures.0
+
+pub returns-in_err-found-clause-rows : goal.returns-in_err-found-clause-rows
+returns-in_err-found-clause-rows c = IfOk-from_err _ _ c.from_residual.ensures.0
+
+pub returns-in_err-found-clause-after : goal.returns-in_err-found-clause-after
+returns-in_err-found-clause-after c = IfOk-from_err _ _ c.from_residual.ensures.0
+
+pub returns-in_err-found-clause-idle : goal.returns-in_err-found-clause-idle
+returns-in_err-found-clause-idle c = IfOk-from_err _ _ c.from_residual.ensures.0
 
 pub add_rows-requires : goal.add_rows-requires
 add_rows-requires c =
-    let e : c.in_ok-found.found.items ≡ found c.args.chosen.now.value c.args.rows.now c.args.page.now.triples = search rules in
+    let e : c.in_ok-found.found.items ≡ found c.args.chosen.now.value c.args.rows.now c.args.page.now.triples = c.in_ok-found.ensures ∙ ap (λ (p : Pattern). found p c.args.rows.now c.as_slice.result.now) c.deref.ensures ∙ ap (λ (l : List Triple). found c.args.chosen.now.value c.args.rows.now l) c.as_slice.ensures in
     subst (λ (l : List Places). HavePlacesFor c.args.rest.now.value l) (sym e) (found-places c.args.rest.now.value c.args.chosen.now.value c.args.rows.now c.args.page.now.triples c.requires.places)
+
+pub returns-in_err-add_rows-clause-opened : goal.returns-in_err-add_rows-clause-opened
+returns-in_err-add_rows-clause-opened c = IfOk-from_err _ _ c.from_residual-in_err-add_rows.ensures.0
+
+pub returns-in_err-add_rows-clause-rows : goal.returns-in_err-add_rows-clause-rows
+returns-in_err-add_rows-clause-rows c = IfOk-from_err _ _ c.from_residual-in_err-add_rows.ensures.0
+
+pub returns-in_err-add_rows-clause-after : goal.returns-in_err-add_rows-clause-after
+returns-in_err-add_rows-clause-after c = IfOk-from_err _ _ c.from_residual-in_err-add_rows.ensures.0
+
+pub returns-in_err-add_rows-clause-idle : goal.returns-in_err-add_rows-clause-idle
+returns-in_err-add_rows-clause-idle c = IfOk-from_err _ _ c.from_residual-in_err-add_rows.ensures.0
+
+pub returns-in_err-further-clause-opened : goal.returns-in_err-further-clause-opened
+returns-in_err-further-clause-opened c = IfOk-from_err _ _ c.from_residual-in_err-further.ensures.0
+
+pub returns-in_err-further-clause-rows : goal.returns-in_err-further-clause-rows
+returns-in_err-further-clause-rows c = IfOk-from_err _ _ c.from_residual-in_err-further.ensures.0
+
+pub returns-in_err-further-clause-after : goal.returns-in_err-further-clause-after
+returns-in_err-further-clause-after c = IfOk-from_err _ _ c.from_residual-in_err-further.ensures.0
+
+pub returns-in_err-further-clause-idle : goal.returns-in_err-further-clause-idle
+returns-in_err-further-clause-idle c = IfOk-from_err _ _ c.from_residual-in_err-further.ensures.0
+
+pub walk_on-requires-clause-places : goal.walk_on-requires-clause-places
+walk_on-requires-clause-places c = c.requires.places
+
+pub walk_on-requires-clause-chosen : goal.walk_on-requires-clause-chosen
+walk_on-requires-clause-chosen c = c.requires.chosen
+
+pub returns-in_err-after-clause-opened : goal.returns-in_err-after-clause-opened
+returns-in_err-after-clause-opened c = IfOk-from_err _ _ c.from_residual-in_err-after.ensures.0
+
+pub returns-in_err-after-clause-rows : goal.returns-in_err-after-clause-rows
+returns-in_err-after-clause-rows c = IfOk-from_err _ _ c.from_residual-in_err-after.ensures.0
+
+pub returns-in_err-after-clause-after : goal.returns-in_err-after-clause-after
+returns-in_err-after-clause-after c = IfOk-from_err _ _ c.from_residual-in_err-after.ensures.0
+
+pub returns-in_err-after-clause-idle : goal.returns-in_err-after-clause-idle
+returns-in_err-after-clause-idle c = IfOk-from_err _ _ c.from_residual-in_err-after.ensures.0
+
+pub returns-clause-opened : goal.returns-clause-opened
+returns-clause-opened c =
+    let e : c.in_ok-found.found.items ≡ found c.args.chosen.now.value c.args.rows.now c.args.page.now.triples = c.in_ok-found.ensures ∙ ap (λ (p : Pattern). found p c.args.rows.now c.as_slice.result.now) c.deref.ensures ∙ ap (λ (l : List Triple). found c.args.chosen.now.value c.args.rows.now l) c.as_slice.ensures in
+    c.in_ok-add_rows.ensures.nodes ∙ ap (λ (l : List Seed). map seed_node l ++ nodes_in (forms_cut c.args.cut.now.forms c.args.cut.now.block) c.args.rest.now.value c.in_ok-found.found.items) c.new-opened.ensures.items ∙ ap (λ (l : List Places). nodes_in (forms_cut c.args.cut.now.forms c.args.cut.now.block) c.args.rest.now.value l) e
+
+pub returns-clause-rows : goal.returns-clause-rows
+returns-clause-rows c =
+    let e : c.in_ok-found.found.items ≡ found c.args.chosen.now.value c.args.rows.now c.args.page.now.triples = c.in_ok-found.ensures ∙ ap (λ (p : Pattern). found p c.args.rows.now c.as_slice.result.now) c.deref.ensures ∙ ap (λ (l : List Triple). found c.args.chosen.now.value c.args.rows.now l) c.as_slice.ensures in
+    c.in_ok-add_rows.ensures.rows ∙ ap (λ (l : List Places). l ++ rows_out c.args.rest.now.value c.in_ok-found.found.items) c.new-out.ensures.items ∙ ap (λ (l : List Places). rows_out c.args.rest.now.value l) e
+
+pub returns-clause-after : goal.returns-clause-after
+returns-clause-after c = c.in_ok-after.ensures ∙ ap (λ n. next_walk c.args.chosen.now.value c.args.rest.now.value c.args.rows.now c.args.pages n) c.in_ok-further.ensures
 
 pub returns-clause-idle : goal.returns-clause-idle
 returns-clause-idle c =
     let cut = forms_cut c.args.cut.now.forms c.args.cut.now.block in
-    let m : map seed_node c.add_rows.new.nodes.items ≡ opened cut c.args.chosen.now.value c.args.rest.now.value c.args.rows.now c.args.page.now.triples = search rules in
-    let a : c.in_ok-after.after ≡ next_walk c.args.chosen.now.value c.args.rest.now.value c.args.rows.now c.args.pages c.args.page.now.next = search rules in
+    let e : c.in_ok-found.found.items ≡ found c.args.chosen.now.value c.args.rows.now c.args.page.now.triples = c.in_ok-found.ensures ∙ ap (λ (p : Pattern). found p c.args.rows.now c.as_slice.result.now) c.deref.ensures ∙ ap (λ (l : List Triple). found c.args.chosen.now.value c.args.rows.now l) c.as_slice.ensures in
+    let m : map seed_node c.add_rows.new.nodes.items ≡ opened cut c.args.chosen.now.value c.args.rest.now.value c.args.rows.now c.args.page.now.triples = c.in_ok-add_rows.ensures.nodes ∙ ap (λ (l : List Seed). map seed_node l ++ nodes_in (forms_cut c.args.cut.now.forms c.args.cut.now.block) c.args.rest.now.value c.in_ok-found.found.items) c.new-opened.ensures.items ∙ ap (λ (l : List Places). nodes_in (forms_cut c.args.cut.now.forms c.args.cut.now.block) c.args.rest.now.value l) e in
+    let a : c.in_ok-after.after ≡ next_walk c.args.chosen.now.value c.args.rest.now.value c.args.rows.now c.args.pages c.args.page.now.next = c.in_ok-after.ensures ∙ ap (λ n. next_walk c.args.chosen.now.value c.args.rest.now.value c.args.rows.now c.args.pages n) c.in_ok-further.ensures in
     made-idle cut c.args.chosen.now.value c.args.rest.now.value c.args.rows.now c.args.pages c.args.page.now.triples c.args.page.now.next _ _ m a

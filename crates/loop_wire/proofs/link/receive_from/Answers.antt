@@ -1,8 +1,18 @@
-use Rattle.std.proofs.Common.{ℕ, ◌≡◌, ◌<◌, ◌==◌, false, List, [], length, is_err, ap, sym, ◌∙◌}
+-- What was received and what is pending is a front of what is owed.
+use Rattle.std.proofs.Common.{ℕ, ◌≡◌, ◌<◌, ◌==◌, false, List, [], length, is_err, ap, sym, ◌∙◌, refl}
 use Rattle.list_laws.proofs.Lists.{none_there}
 use Rattle.loop_wire.specs.Held.{received_more}
-use Rattle.loop_wire.proofs.Talks.{on_ok, some_there, pends, all_received, is_left, gives_nothing, gives_stall, gives_bytes, kept_nothing, kept_stall, kept_received, kept_as}
+use Rattle.loop_wire.proofs.Talks.{on_ok, some_there, pends, all_received, is_left, gives_nothing, gives_stall, gives_bytes, kept_nothing, kept_stall, kept_received, kept_as, on_err, gives_none}
 use Rattle.loop_wire.proofs.link.receive_from.Goals as goal
+
+pub prepare-requires : goal.prepare-requires
+prepare-requires g c = c.requires.kept.talks.suits
+
+pub returns-then-is_err-clause-kept : goal.returns-then-is_err-clause-kept
+returns-then-is_err-clause-kept g c = λ able. absurd (able refl)
+
+pub returns-then-is_err-clause-gives : goal.returns-then-is_err-clause-gives
+returns-then-is_err-clause-gives g c = gives_none _ _ _ _ _ _ refl
 
 pub returns-then-is_empty-clause-kept : goal.returns-then-is_empty-clause-kept
 returns-then-is_empty-clause-kept g c = λ able.
@@ -38,6 +48,21 @@ returns-then-stalls-clause-gives g c =
     let front = pends _ _ _ _ _ _ _ c.requires.version g.met.C.RespondsAt.begins_at c.requires.kept.talks stays in
     let some : 0 < length (g.C.Converses.kind.pending c.prepare.new.connection) = some_there _ c.is_empty.result (c.is_empty.ensures ∙ ap (λ (xs : List ℕ). length xs == 0) c.pending.ensures) c.if-is_empty.false in
     gives_stall _ _ _ _ _ _ c.stall.ensures.stalled c.stall.ensures.later c.if-stalls.true (is_left _ _ _ _ c.requires.kept.is_held.within front.1 some)
+
+pub hand_out-n-requires-clause-some : goal.hand_out-n-requires-clause-some
+hand_out-n-requires-clause-some g c = some_there _ c.is_empty.result (c.is_empty.ensures ∙ ap (λ (xs : List ℕ). length xs == 0) c.pending.ensures) c.if-is_empty.false
+
+pub hand_out-n-requires-clause-most : goal.hand_out-n-requires-clause-most
+hand_out-n-requires-clause-most g c = c.requires.most
+
+pub hand_out-n-requires-clause-room : goal.hand_out-n-requires-clause-room
+hand_out-n-requires-clause-room g c = c.requires.room
+
+pub returns-then-is_err-2-clause-kept : goal.returns-then-is_err-2-clause-kept
+returns-then-is_err-2-clause-kept g c = λ able. absurd (able refl)
+
+pub returns-then-is_err-2-clause-gives : goal.returns-then-is_err-2-clause-gives
+returns-then-is_err-2-clause-gives g c = gives_none _ _ _ _ _ _ (on_err _ c.receive.result c.receive.ensures.err (sym c.if-is_err-2.ensures.value))
 
 pub returns-clause-kept : goal.returns-clause-kept
 returns-clause-kept g c = λ able.

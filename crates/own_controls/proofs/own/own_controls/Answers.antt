@@ -1,9 +1,50 @@
+-- The lines are those of the metadata of a page of our own.
 use Rattle.std.proofs.Common.{ℕ, List, refl, subst, arith}
 use Rattle.std.specs.Prelude.{codes}
 use Rattle.own_controls.specs.Own.{IsOwn}
 use Rattle.own_controls.proofs.Addresses.{text_web}
 use Rattle.own_controls.proofs.Owned.{text_is, is_own}
+use Rattle.own_controls.proofs.Nothing.{none_given}
 use Rattle.own_controls.proofs.own.own_controls.Goals as goal
+
+pub returns-in_err-front : goal.returns-in_err-front
+returns-in_err-front c = none_given _ _ c.from_residual.ensures
+
+pub returns-in_err-ending : goal.returns-in_err-ending
+returns-in_err-ending c = none_given _ _ c.from_residual-in_err-ending.ensures
+
+pub returns-in_err-texts : goal.returns-in_err-texts
+returns-in_err-texts c = none_given _ _ c.from_residual-in_err-texts.ensures
+
+pub behind_texts-requires-clause-ending : goal.behind_texts-requires-clause-ending
+behind_texts-requires-clause-ending c = c.in_ok-ending.ensures
+
+pub behind_texts-requires-clause-base : goal.behind_texts-requires-clause-base
+behind_texts-requires-clause-base c = c.in_ok-texts.ensures.base
+
+pub behind_texts-requires-clause-template : goal.behind_texts-requires-clause-template
+behind_texts-requires-clause-template c = c.in_ok-texts.ensures.template
+
+pub returns-in_err-counts : goal.returns-in_err-counts
+returns-in_err-counts c = none_given _ _ c.from_residual-in_err-counts.ensures
+
+pub returns-in_err-told : goal.returns-in_err-told
+returns-in_err-told c = none_given _ _ c.from_residual-in_err-told.ensures
+
+pub link_in-requires : goal.link_in-requires
+link_in-requires c = c.in_ok-ending.ensures
+
+pub returns-in_err-next : goal.returns-in_err-next
+returns-in_err-next c = none_given _ _ c.from_residual-in_err-next.ensures
+
+pub link_in-requires-2 : goal.link_in-requires-2
+link_in-requires-2 c = c.in_ok-ending.ensures
+
+pub returns-in_err-previous : goal.returns-in_err-previous
+returns-in_err-previous c = none_given _ _ c.from_residual-in_err-previous.ensures
+
+pub returns-in_err-version : goal.returns-in_err-version
+returns-in_err-version c = none_given _ _ c.from_residual-in_err-version.ensures
 
 pub returns : goal.returns
 returns c =

@@ -1,7 +1,18 @@
+-- What stands before the rest is whole lines.
 use Rattle.std.proofs.Common.{[], ◌++◌, refl, inl, sym, ◌∙◌, subst}
 use Rattle.own_controls.specs.Lines.{EndsLine}
 use Rattle.own_controls.proofs.Joined.{front_is, more_front}
+use Rattle.own_controls.proofs.Nothing.{none_given}
 use Rattle.own_controls.proofs.start.cut.Goals as goal
+
+pub returns-in_err-rest-clause-whole : goal.returns-in_err-rest-clause-whole
+returns-in_err-rest-clause-whole c = none_given _ _ c.from_residual.ensures
+
+pub returns-in_err-rest-clause-front : goal.returns-in_err-rest-clause-front
+returns-in_err-rest-clause-front c = none_given _ _ c.from_residual.ensures
+
+pub loop-rest-smaller : goal.loop-rest-smaller
+loop-rest-smaller c = c.in_ok-rest.ensures.shorter
 
 pub loop-rest-init : goal.loop-rest-init
 loop-rest-init c = ([], refl, inl refl)

@@ -1,3 +1,4 @@
+-- The numbers are those of the data and of their answers, by what the call over the wire promises.
 -- What is said of the query is said of the file that holds it.
 use Rattle.std.proofs.Common.{Result, Ok, Err, refl, ap}
 use Rattle.list_laws.proofs.Results.{ok_not_err, err_same}
@@ -10,8 +11,8 @@ use Rattle.answer_faults.specs.declared.fault.AnswerFault.{AnswerFault}
 use Rattle.answer_faults.specs.declared.fault.AnswerFault.TheVariants as faults
 use Rattle.query_command.specs.Groups as sums
 use Rattle.query_command.specs.Over.{AsksGeneratedOver}
-use Rattle.query_command.proofs.Counting.{generated_answers, generated_fault, generated_planned, generated_honest, generated_sent, generated_requested, generated_replied, generated_ends}
-use Rattle.query_command.proofs.Answered.{by_call, by_called}
+use Rattle.query_command.proofs.Counting.{CalledGenerated, generated_answers, generated_fault, generated_planned, generated_honest, generated_sent, generated_requested, generated_replied, generated_ends, memory_not_file}
+use Rattle.query_command.proofs.Answered.{by_called}
 use Rattle.query_command.proofs.Complete.{asks_generated, counts_none}
 use Rattle.query_command.proofs.Locals.{valid_read}
 use Rattle.query_command.proofs.GroupFiles.{plain_file, group_file, generated_ok, generated_err}
@@ -25,12 +26,12 @@ returns-in-Err g c =
 pub returns-in_default : goal.returns-in_default
 returns-in_default g c =
     sums.Plain (counts_none _ _ c.args.persons c.args.query.now _ (faults.Data data_faults.OutOfMemory) c.requires.none (refl, c.requires.none) (λ triples config q. tt) tt tt
-    (reads_as _ _ _ _ _ (λ e. cc) (λ e. cc) c.in-Ok.ensures.reads))
+    (reads_as _ _ _ _ _ (λ e. absurd (ok_not_err e)) (λ e. absurd (memory_not_file e)) c.in-Ok.ensures.reads))
 
 pub returns-in_default-generated_server : goal.returns-in_default-generated_server
 returns-in_default-generated_server g c =
     sums.Plain (counts_none _ _ c.args.persons c.args.query.now _ (faults.Data data_faults.OutOfMemory) c.requires.none (refl, c.requires.none) (λ triples config q. tt) tt tt
-    (reads_as _ _ _ _ _ (λ e. cc) (λ e. cc) c.in-Ok.ensures.reads))
+    (reads_as _ _ _ _ _ (λ e. absurd (ok_not_err e)) (λ e. absurd (memory_not_file e)) c.in-Ok.ensures.reads))
 
 pub returns-in-Plain : goal.returns-in-Plain
 returns-in-Plain g c =
@@ -41,25 +42,26 @@ returns-in-Plain g c =
     let valid = valid_read q _ c.patterns-patterns.ensures.value c.patterns-patterns.ensures.valid in
     let one = c.served_is_one.ensures in
     let e = c.ask_generated.ensures in
-    by_call (λ (result : Result Counts AnswerFault). sums.GeneratedAsked (g.F.Shelf.state c.args.shelf.now) (g.F.Shelf.state c.read_query.new.shelf) c.ask_generated.new.inside c.args.persons c.args.query.now result) c.ask_generated.result _ c.answered.ensures.ok c.answered.ensures.err
-    (λ counts is. sums.Plain (asks_generated _ _ c.args.persons c.args.query.now _ (Ok counts)
-    (generated_answers _ c.args.persons _ _ q read counts (rw is at e.counts) (rw is at e.answers))
+    by_called (CalledGenerated server c.args.persons q c.ask_generated.new.inside) (λ (result : Result Counts AnswerFault). sums.GeneratedAsked (g.F.Shelf.state c.args.shelf.now) (g.F.Shelf.state c.read_query.new.shelf) c.ask_generated.new.inside c.args.persons c.args.query.now result) c.ask_generated.result _ c.answered.ensures.ok c.answered.ensures.err
+    (record { counts = e.counts; answers = e.answers; cause = e.cause; sent = e.sent; requested = e.requested; replied = e.replied; ends = e.ends; honest = e.honest })
+    (λ counts k. sums.Plain (asks_generated _ _ c.args.persons c.args.query.now _ (Ok counts)
+    (generated_answers _ c.args.persons _ _ q read counts k.counts k.answers)
     tt
-    (generated_sent _ c.args.persons _ _ server starts q read one e.sent)
-    (generated_requested _ c.args.persons _ _ server starts q read one e.requested)
-    (generated_replied _ c.args.persons _ _ server starts q read one counts (rw is at e.replied))
+    (generated_sent _ c.args.persons _ _ server starts q read one k.sent)
+    (generated_requested _ c.args.persons _ _ server starts q read one k.requested)
+    (generated_replied _ c.args.persons _ _ server starts q read one counts k.replied)
     (λ files is triples q serves holds. tt)
     tt
-    (generated_honest c.args.persons _ server starts e.honest)
+    (generated_honest c.args.persons _ server starts k.honest)
     (reads_as _ _ _ _ _ ok_not_err (λ e. absurd e) c.in-Ok.ensures.reads)))
-    (λ fault is. sums.Plain (asks_generated _ _ c.args.persons c.args.query.now _ (Err (faults.Client fault)) tt
-    (generated_fault _ c.args.persons _ _ q read fault (rw is at e.cause))
-    (generated_sent _ c.args.persons _ _ server starts q read one e.sent)
-    (generated_requested _ c.args.persons _ _ server starts q read one e.requested)
+    (λ fault k. sums.Plain (asks_generated _ _ c.args.persons c.args.query.now _ (Err (faults.Client fault)) tt
+    (generated_fault _ c.args.persons _ _ q read fault k.cause)
+    (generated_sent _ c.args.persons _ _ server starts q read one k.sent)
+    (generated_requested _ c.args.persons _ _ server starts q read one k.requested)
     tt
-    (generated_ends _ c.args.persons _ c.ask_generated.new.inside server starts q read one c.commands_keep_limits.ensures.generated c.commands_keep_limits.ensures.queries c.requires.most valid fault (rw is at e.ends))
-    (generated_planned _ c.args.persons _ _ q read c.commands_keep_limits.ensures.generated c.commands_keep_limits.ensures.queries c.requires.most valid server starts fault e.honest (rw is at e.ends))
-    (generated_honest c.args.persons _ server starts e.honest)
+    (generated_ends _ c.args.persons _ c.ask_generated.new.inside server starts q read one c.commands_keep_limits.ensures.generated c.commands_keep_limits.ensures.queries c.requires.most valid fault k.ends)
+    (generated_planned _ c.args.persons _ _ q read c.commands_keep_limits.ensures.generated c.commands_keep_limits.ensures.queries c.requires.most valid server starts fault k.honest k.ends)
+    (generated_honest c.args.persons _ server starts k.honest)
     (reads_as _ _ _ _ _ ok_not_err (λ e. absurd e) c.in-Ok.ensures.reads)))
 
 pub returns : goal.returns

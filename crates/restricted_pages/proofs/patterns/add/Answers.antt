@@ -1,12 +1,14 @@
+-- A pattern that is there adds nothing.
 use Rattle.std.proofs.Common.{◌≡◌, ◌&&◌, ℕ, nat_eq, true, List, Option, Some, None, refl, sym, ap, subst, ◌∙◌}
 use Rattle.std.specs.List.{Contains}
 use Rattle.std.specs.Option.{option_eq}
 use Rattle.std.proofs.lemmas.Bool.{and_parts}
 use Rattle.std.proofs.lemmas.Bool.Decides.{Decides-eqb}
+use Rattle.std.proofs.lemmas.Result.{IfOk-from_err}
 use Rattle.list_laws.proofs.Members.{some_of}
 use Rattle.triple_table.specs.declared.ids.IdPattern.{IdPattern}
 use Rattle.restricted_pages.specs.Patterns.{IsJoined}
-use Rattle.restricted_pages.proofs.Joins.{there_before}
+use Rattle.restricted_pages.proofs.Joins.{nothing_more, one_more, there_before}
 use Rattle.restricted_pages.proofs.patterns.add.Goals as goal
 
 same_id : (a b : Option ℕ) → option_eq nat_eq a b ≡ true → a ≡ b
@@ -21,6 +23,15 @@ same_pattern x y h =
     let q = and_parts (option_eq nat_eq x.predicate y.predicate) (option_eq nat_eq x.object y.object) p.1 in
     let e = same_id x.subject y.subject p.0 in let f = same_id x.predicate y.predicate q.0 in let g = same_id x.object y.object q.1 in
     λ i. record { subject = e i; predicate = f i; object = g i }
+
+pub returns-in_default : goal.returns-in_default
+returns-in_default c = λ s slots row rows is h. nothing_more s slots row rows c.args.patterns.now.items h (subst (IsJoined s slots row) c.in_default.is is)
+
+pub returns-in_err-push : goal.returns-in_err-push
+returns-in_err-push c = IfOk-from_err _ _ c.from_residual.ensures.0
+
+pub returns-in_ok-push : goal.returns-in_ok-push
+returns-in_ok-push c = λ s slots row rows is h. one_more s slots row rows c.args.patterns.now.items h c.in-Some.pattern (subst (IsJoined s slots row) c.in-Some.is is) c.push.new.self.items c.in_ok-push.ensures.items
 
 pub returns-else-not-contains : goal.returns-else-not-contains
 returns-else-not-contains c =

@@ -1,6 +1,6 @@
 -- Each turn is one more, with what follows it.
 use Rattle.std.proofs.Common.{refl, ◌∙◌, ap, arith}
-use Rattle.std.proofs.lemmas.Result.{err_from_is_err_and}
+use Rattle.std.proofs.lemmas.Result.{IfOk-from_err, err_from_is_err_and}
 use Rattle.connections.proofs.Histories.{some_history}
 use Rattle.serve_loop.proofs.ServeLemmas.{serves_none, serves_turn, serves_follow, serves_failed, serves_carries, serves_fault, less_if, first_if, zero_if}
 use Rattle.serve_loop.proofs.CallLemmas.{alone_none, alone_then}
@@ -9,6 +9,7 @@ use Rattle.serve_loop.proofs.ServiceLemmas.{so_far_none, so_far_more, links_afte
 use Rattle.serve_loop.proofs.GreetLemmas.{between_same, comes_after, follows_between, follows_count, follows_turns, fails_after, failed_carries}
 use Rattle.serve_loop.proofs.AskedLemmas.{asked_more, asked_none, asks_once, failed_asks, none_asked, none_given}
 use Rattle.serve_loop.proofs.RoundLemmas.{after_last, is_after, next_part, rests_as, stands_more, stands_none}
+use Rattle.std.specs.Prelude.{is_some}
 use Rattle.serve_loop.proofs.service.serve_on.Goals as goal
 
 pub loop-init : goal.loop-init
@@ -156,3 +157,114 @@ returns-in_err-follow-clause-asks g c =
     (c.in_ok-turned.ensures.asks (g.W.Wire.state c.args.wire.now)) between (count_after _ _ _ _ _ _ _ c.in_ok-turned.ensures.count count)
     (stands_more _ _ _ _ _ _ _ _ _ c.loop.round (after_last c.loop.round c.part_before-part.result c.in_ok-turned.turned c.beyond-begun.result) c.part_before-part.result c.in_ok-turned.turned _ _ _ p.relates c.in_ok-turned.ensures.busy between
     c.loop.invariant.asked.stands begun c.beyond-begun.ensures.less (is_after _ _ _ _)))
+
+pub part_before-part-requires : goal.part_before-part-requires
+part_before-part-requires g c = c.beyond-begun.ensures
+
+pub turn-requires-clause-listens : goal.turn-requires-clause-listens
+turn-requires-clause-listens g c = ap is_some c.loop.invariant.alone.place ∙ c.requires.listens
+
+pub turn-requires-clause-few : goal.turn-requires-clause-few
+turn-requires-clause-few g c = c.loop.invariant.few
+
+pub turn-requires-clause-suits : goal.turn-requires-clause-suits
+turn-requires-clause-suits g c = c.loop.invariant.suits
+
+pub returns-in_err-turned-clause-alone : goal.returns-in_err-turned-clause-alone
+returns-in_err-turned-clause-alone g c = alone_then _ _ _ c.loop.invariant.alone c.turn.ensures.alone
+
+pub returns-in_err-turned-clause-suits : goal.returns-in_err-turned-clause-suits
+returns-in_err-turned-clause-suits g c = c.turn.ensures.suits
+
+pub returns-in_err-turned-clause-serves : goal.returns-in_err-turned-clause-serves
+returns-in_err-turned-clause-serves g c = IfOk-from_err _ _ c.from_residual.ensures.0
+
+pub returns-in_err-turned-clause-turns : goal.returns-in_err-turned-clause-turns
+returns-in_err-turned-clause-turns g c = IfOk-from_err _ _ c.from_residual.ensures.0
+
+pub returns-in_err-turned-clause-stops : goal.returns-in_err-turned-clause-stops
+returns-in_err-turned-clause-stops g c = IfOk-from_err _ _ c.from_residual.ensures.0
+
+pub returns-in_err-turned-clause-first : goal.returns-in_err-turned-clause-first
+returns-in_err-turned-clause-first g c = IfOk-from_err _ _ c.from_residual.ensures.0
+
+pub returns-in_err-turned-clause-never : goal.returns-in_err-turned-clause-never
+returns-in_err-turned-clause-never g c = IfOk-from_err _ _ c.from_residual.ensures.0
+
+pub returns-in_err-turned-clause-calm : goal.returns-in_err-turned-clause-calm
+returns-in_err-turned-clause-calm g c = IfOk-from_err _ _ c.from_residual.ensures.0
+
+pub returns-in_err-turned-clause-follows : goal.returns-in_err-turned-clause-follows
+returns-in_err-turned-clause-follows g c = g.met.C.Server.Serves.follows_then _ _ _ c.loop.invariant.follows c.turn.ensures.follows
+
+pub returns-in_err-turned-clause-keeps : goal.returns-in_err-turned-clause-keeps
+returns-in_err-turned-clause-keeps g c = g.met.S.Supply.keeps_then _ _ _ c.loop.invariant.keeps c.turn.ensures.keeps
+
+pub returns-in_err-turned-clause-same : goal.returns-in_err-turned-clause-same
+returns-in_err-turned-clause-same g c = λ d. (λ x. (c.loop.invariant.same d).0 ((c.turn.ensures.same d).0 x), λ x. (c.turn.ensures.same d).1 ((c.loop.invariant.same d).1 x))
+
+pub returns-then-is_reached-clause-alone : goal.returns-then-is_reached-clause-alone
+returns-then-is_reached-clause-alone g c = alone_then _ _ _ c.loop.invariant.alone c.turn.ensures.alone
+
+pub returns-then-is_reached-clause-suits : goal.returns-then-is_reached-clause-suits
+returns-then-is_reached-clause-suits g c = c.turn.ensures.suits
+
+pub returns-then-is_reached-clause-fails : goal.returns-then-is_reached-clause-fails
+returns-then-is_reached-clause-fails g c = tt
+
+pub returns-then-is_reached-clause-stops : goal.returns-then-is_reached-clause-stops
+returns-then-is_reached-clause-stops g c = c.is_reached.ensures.reached c.if-is_reached.true
+
+pub returns-then-is_reached-clause-never : goal.returns-then-is_reached-clause-never
+returns-then-is_reached-clause-never g c = c.is_reached.ensures.some c.if-is_reached.true
+
+pub returns-then-is_reached-clause-calm : goal.returns-then-is_reached-clause-calm
+returns-then-is_reached-clause-calm g c = c.in_ok-turned.ensures.calm ∙ c.loop.invariant.calm
+
+pub returns-then-is_reached-clause-wire : goal.returns-then-is_reached-clause-wire
+returns-then-is_reached-clause-wire g c = tt
+
+pub returns-then-is_reached-clause-follows : goal.returns-then-is_reached-clause-follows
+returns-then-is_reached-clause-follows g c = g.met.C.Server.Serves.follows_then _ _ _ c.loop.invariant.follows c.turn.ensures.follows
+
+pub returns-then-is_reached-clause-keeps : goal.returns-then-is_reached-clause-keeps
+returns-then-is_reached-clause-keeps g c = g.met.S.Supply.keeps_then _ _ _ c.loop.invariant.keeps c.turn.ensures.keeps
+
+pub returns-then-is_reached-clause-same : goal.returns-then-is_reached-clause-same
+returns-then-is_reached-clause-same g c = λ d. (λ x. (c.loop.invariant.same d).0 ((c.turn.ensures.same d).0 x), λ x. (c.turn.ensures.same d).1 ((c.loop.invariant.same d).1 x))
+
+pub follow-requires-clause-listens : goal.follow-requires-clause-listens
+follow-requires-clause-listens g c = ap is_some (c.turn.ensures.alone.place ∙ c.loop.invariant.alone.place) ∙ c.requires.listens
+
+pub follow-requires-clause-few : goal.follow-requires-clause-few
+follow-requires-clause-few g c = c.turn.ensures.few
+
+pub follow-requires-clause-suits : goal.follow-requires-clause-suits
+follow-requires-clause-suits g c = c.turn.ensures.suits
+
+pub returns-in_err-follow-clause-alone : goal.returns-in_err-follow-clause-alone
+returns-in_err-follow-clause-alone g c = alone_then _ _ _ (alone_then _ _ _ c.loop.invariant.alone c.turn.ensures.alone) c.follow.ensures.alone
+
+pub returns-in_err-follow-clause-suits : goal.returns-in_err-follow-clause-suits
+returns-in_err-follow-clause-suits g c = c.follow.ensures.suits
+
+pub returns-in_err-follow-clause-serves : goal.returns-in_err-follow-clause-serves
+returns-in_err-follow-clause-serves g c = IfOk-from_err _ _ c.from_residual-in_err-follow.ensures.0
+
+pub returns-in_err-follow-clause-turns : goal.returns-in_err-follow-clause-turns
+returns-in_err-follow-clause-turns g c = IfOk-from_err _ _ c.from_residual-in_err-follow.ensures.0
+
+pub returns-in_err-follow-clause-stops : goal.returns-in_err-follow-clause-stops
+returns-in_err-follow-clause-stops g c = IfOk-from_err _ _ c.from_residual-in_err-follow.ensures.0
+
+pub returns-in_err-follow-clause-first : goal.returns-in_err-follow-clause-first
+returns-in_err-follow-clause-first g c = IfOk-from_err _ _ c.from_residual-in_err-follow.ensures.0
+
+pub returns-in_err-follow-clause-never : goal.returns-in_err-follow-clause-never
+returns-in_err-follow-clause-never g c = IfOk-from_err _ _ c.from_residual-in_err-follow.ensures.0
+
+pub returns-in_err-follow-clause-calm : goal.returns-in_err-follow-clause-calm
+returns-in_err-follow-clause-calm g c = IfOk-from_err _ _ c.from_residual-in_err-follow.ensures.0
+
+pub returns-in_err-follow-clause-same : goal.returns-in_err-follow-clause-same
+returns-in_err-follow-clause-same g c = λ d. (λ x. (c.loop.invariant.same d).0 ((c.turn.ensures.same d).0 x), λ x. (c.turn.ensures.same d).1 ((c.loop.invariant.same d).1 x))

@@ -4,10 +4,10 @@ use Rattle.tpf_client.specs.Told.{told_at}
 use Rattle.tpf_client.specs.Sources.{sources_of}
 use Rattle.tpf_client.specs.Calls.{Joins, JoinsSome, most_behind}
 use Rattle.tpf_client.specs.Turns.{Limits, keeps_both}
+use Rattle.tpf_base.proofs.SendingLemmas.{allowed_same}
 use Rattle.tpf_client.proofs.Joining.{limits-of, begins-meets, joins-of, some-of}
 use Rattle.tpf_client.proofs.Shutting.{on-ok-two, if-err-from}
 use Rattle.tpf_client.proofs.Sinks.{stays-none, leaves-lacking}
-use Rattle.tpf_client.proofs.Waiting.{same-allowed}
 use Rattle.tpf_client.proofs.Written.{nothing-joined}
 use Rattle.tpf_client.proofs.results.join_pages.Goals as goal
 
@@ -54,7 +54,7 @@ returns-in-Err-clause-some g c = (
 )
 
 pub returns-in-Err-clause-allowed : goal.returns-in-Err-clause-allowed
-returns-in-Err-clause-allowed g c = same-allowed (g.W.Wire.allows c.args.wire.now)
+returns-in-Err-clause-allowed g c = allowed_same (g.W.Wire.allows c.args.wire.now)
 
 pub returns-in-Err-clause-sink : goal.returns-in-Err-clause-sink
 returns-in-Err-clause-sink g c = leaves-lacking _ _ (stays-none (g.T.TakesRows.sink c.args.behind.now))

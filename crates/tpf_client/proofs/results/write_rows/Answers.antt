@@ -2,17 +2,17 @@
 use Rattle.std.proofs.Common.{◌∙◌, ap}
 use Rattle.result_json.specs.Pieces.{Writing}
 use Rattle.tpf_client.specs.Told.{told_at}
+use Rattle.tpf_base.proofs.SendingLemmas.{allowed_same}
 use Rattle.tpf_client.proofs.Told.{first-at}
 use Rattle.tpf_client.proofs.Written.{nothing-begun, nothing-shown}
 use Rattle.tpf_client.proofs.Sinks.{stays-none, leaves-stays, leaves-ok, leaves-lacking, leaves-as}
-use Rattle.tpf_client.proofs.Waiting.{same-allowed}
 use Rattle.tpf_client.proofs.results.write_rows.Goals as goal
 
 pub write_joined-requires-clause-fresh : goal.write_joined-requires-clause-fresh
 write_joined-requires-clause-fresh g c = c.new-text.ensures ∙ ap (λ (w : Writing). record { writer = w; count = 0 }) c.in-Ok.ensures
 
 pub returns-in-Err-clause-allowed : goal.returns-in-Err-clause-allowed
-returns-in-Err-clause-allowed g c = same-allowed (g.W.Wire.allows c.args.wire.now)
+returns-in-Err-clause-allowed g c = allowed_same (g.W.Wire.allows c.args.wire.now)
 
 pub returns-in-Err-clause-err : goal.returns-in-Err-clause-err
 returns-in-Err-clause-err g c = (nothing-begun (g.W.Wire.allows c.args.wire.now) _ _ c.args.call.query.now c.args.call.starts.now c.args.pages.forms (told_at c.args.call.starts.now c.args.pages.versions.items) c.args.call.options.now.budget c.args.asks.now (g.W.Wire.state c.args.wire.now) _ c.requires.stands.rest.none c.requires.stands.rest.suits, nothing-shown _ _ _ _ _ _ _ _ _ _ _ c.requires.stands.rest.none c.requires.stands.rest.suits _ _)

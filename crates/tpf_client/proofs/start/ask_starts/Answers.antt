@@ -5,14 +5,15 @@ use Rattle.tpf_base.specs.Addresses.{Address}
 use Rattle.fragment_page.specs.declared.page.Page.{Page}
 use Rattle.template_fill.specs.declared.form.Form.{Form}
 use Rattle.tpf_client.specs.Starts.{HasStarts}
+use Rattle.tpf_base.proofs.SendingLemmas.{allowed_same}
 use Rattle.tpf_client.proofs.Several.{starts-none, starts-more, starts-fail, starts-lacking, split-at, more-at, behind-at, some-read}
-use Rattle.tpf_client.proofs.Waiting.{same-allowed, allowed-then}
+use Rattle.tpf_client.proofs.Waiting.{allowed-then}
 use Rattle.tpf_client.proofs.start.ask_starts.Goals as goal
 
 pub loop-start-init : goal.loop-start-init
 loop-start-init g c = record {
   so = ([], c.new-forms.ensures.items, c.new-versions.ensures.items, starts-none (g.W.Wire.allows c.args.wire.now) c.args.asks.now (g.W.Wire.state c.args.wire.now) c.requires.rest);
-  allowed = same-allowed (g.W.Wire.allows c.args.wire.now);
+  allowed = allowed_same (g.W.Wire.allows c.args.wire.now);
 }
 
 pub ask_start-requires : goal.ask_start-requires

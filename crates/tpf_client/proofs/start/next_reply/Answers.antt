@@ -1,5 +1,6 @@
 -- Each step that waits is one more; the one at which a reply came or which broke is the last.
-use Rattle.tpf_client.proofs.Waiting.{so-none, so-waits, so-comes, so-stops, same-allowed, allowed-then, none-held}
+use Rattle.tpf_base.proofs.SendingLemmas.{allowed_same}
+use Rattle.tpf_client.proofs.Waiting.{so-none, so-waits, so-comes, so-stops, allowed-then, none-held}
 use Rattle.tpf_client.proofs.Starting.{step-came, step-waited, step-idle}
 use Rattle.tpf_client.proofs.start.next_reply.Goals as goal
 
@@ -12,7 +13,7 @@ step-requires-clause-no_fault g c = c.loop.invariant.so.no_fault
 pub loop-init : goal.loop-init
 loop-init g c = record {
   so = so-none (g.W.Wire.allows c.args.wire.now) c.args.asks.now (g.W.Wire.state c.args.wire.now) c.requires.no_fault c.requires.suits;
-  allowed = same-allowed (g.W.Wire.allows c.args.wire.now);
+  allowed = allowed_same (g.W.Wire.allows c.args.wire.now);
 }
 
 pub loop-preserved : goal.loop-preserved

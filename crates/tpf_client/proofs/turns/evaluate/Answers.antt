@@ -3,9 +3,10 @@ use Rattle.std.proofs.Common.{Bool, [], ◌++◌, ◌⊎◌, inl, inr, ap}
 use Rattle.std.specs.Prelude.{Ok}
 use Rattle.tpf_client.specs.Told.{told_in}
 use Rattle.tpf_client.specs.Turns.{keeps_both}
+use Rattle.tpf_base.proofs.SendingLemmas.{allowed_same}
 use Rattle.tpf_client.proofs.Going.{went-none, went-then, failed-then}
 use Rattle.tpf_client.proofs.Sinks.{stays-none, stays-then, leaves-stays, leaves-ok, leaves-behind, leaves-as}
-use Rattle.tpf_client.proofs.Waiting.{same-allowed, allowed-then}
+use Rattle.tpf_client.proofs.Waiting.{allowed-then}
 use Rattle.tpf_client.proofs.turns.evaluate.Goals as goal
 
 -- what was taken behind the rows that were taken before
@@ -18,7 +19,7 @@ loop-init g c = record {
   went = ([], [], went-none g.E.Evaluates.suits g.E.Evaluates.account (keeps_both g.E.Evaluates.keeps_to g.E.Evaluates.keeps_small) g.E.Evaluates.standing g.E.Evaluates.is_true (told_in c.args.bounds) (g.W.Wire.allows c.args.wire.now) c.args.evaluation.now.state c.args.asks.now (g.W.Wire.state c.args.wire.now) c.requires.suits, g.met.T.TakesRows.takes_none c.args.rows.now c.args.behind.now);
   counts = c.requires.given;
   sink = stays-none (g.T.TakesRows.sink c.args.behind.now);
-  allowed = same-allowed (g.W.Wire.allows c.args.wire.now);
+  allowed = allowed_same (g.W.Wire.allows c.args.wire.now);
 }
 
 pub turn-requires-clause-meets : goal.turn-requires-clause-meets

@@ -7,10 +7,10 @@ use Rattle.tpf_client.specs.Causes.{IsLocal}
 use Rattle.tpf_client.specs.Traffic.{Asked}
 use Rattle.tpf_client.specs.Told.{told_in}
 use Rattle.tpf_client.specs.Turns.{keeps_both}
+use Rattle.tpf_base.proofs.SendingLemmas.{allowed_same}
 use Rattle.tpf_client.proofs.Meeting.{meets-some}
 use Rattle.tpf_client.proofs.Going.{ready-meets, went-ready, went-then, failed-ready, failed-here, failed-then, explains-local, sink-local, err-as}
 use Rattle.tpf_client.proofs.Sinks.{stays-then, stays-ok, leaves-stays, leaves-ok, leaves-behind, leaves-other, leaves-fault}
-use Rattle.tpf_client.proofs.Waiting.{same-allowed}
 use Rattle.tpf_client.proofs.turns.turn.Goals as goal
 
 pub take_next-requires-clause-meets : goal.take_next-requires-clause-meets
@@ -36,7 +36,7 @@ returns-in-Err-clause-failed g c =
     (map Asked r.1, r.0, failed-ready g.E.Evaluates.suits g.E.Evaluates.account (keeps_both g.E.Evaluates.keeps_to g.E.Evaluates.keeps_small) g.E.Evaluates.standing g.E.Evaluates.is_true (told_in c.args.bounds) (g.W.Wire.allows c.args.wire.now) c.args.evaluation.now.state r.2 c.args.bounds.budget c.in-Err.fault r.0 r.1 c.args.asks.now c.prepare.new.asks (g.W.Wire.state c.args.wire.now) c.requires.suits c.is_lawful.ensures r.3 r.5, r.4, inl r.5)
 
 pub returns-in-Err-clause-allowed : goal.returns-in-Err-clause-allowed
-returns-in-Err-clause-allowed g c = same-allowed (g.W.Wire.allows c.args.wire.now)
+returns-in-Err-clause-allowed g c = allowed_same (g.W.Wire.allows c.args.wire.now)
 
 pub returns-then-done-clause-went : goal.returns-then-done-clause-went
 returns-then-done-clause-went g c = let r = c.in-Ok.ensures.ok in (map Asked r.1, r.0, went-ready g.E.Evaluates.suits g.E.Evaluates.account (keeps_both g.E.Evaluates.keeps_to g.E.Evaluates.keeps_small) g.E.Evaluates.standing g.E.Evaluates.is_true (told_in c.args.bounds) (g.W.Wire.allows c.args.wire.now) c.args.evaluation.now.state c.prepare.new.evaluation r.0 r.1 c.args.asks.now c.prepare.new.asks (g.W.Wire.state c.args.wire.now) c.requires.suits c.is_lawful.ensures r.2, r.3)
@@ -45,7 +45,7 @@ pub returns-then-done-clause-done : goal.returns-then-done-clause-done
 returns-then-done-clause-done g c = λ e. sym c.in-Ok.ensures.done ∙ c.if-done.true
 
 pub returns-then-done-clause-allowed : goal.returns-then-done-clause-allowed
-returns-then-done-clause-allowed g c = same-allowed (g.W.Wire.allows c.args.wire.now)
+returns-then-done-clause-allowed g c = allowed_same (g.W.Wire.allows c.args.wire.now)
 
 pub returns-in-Err-hand_on-clause-failed : goal.returns-in-Err-hand_on-clause-failed
 returns-in-Err-hand_on-clause-failed g c =
@@ -66,7 +66,7 @@ returns-in-Err-take_next-clause-failed g c =
       map Asked r.1 ++ f.0,
       r.0 ++ [],
       failed-then g.E.Evaluates.suits g.E.Evaluates.account (keeps_both g.E.Evaluates.keeps_to g.E.Evaluates.keeps_small) g.E.Evaluates.standing g.E.Evaluates.is_true (told_in c.args.bounds) (g.W.Wire.allows c.args.wire.now) (g.W.Wire.allows c.args.wire.now) c.args.evaluation.now.state c.prepare.new.evaluation c.args.bounds.budget c.in-Err-take_next.fault (map Asked r.1) f.0 r.0 [] c.args.asks.now c.prepare.new.asks c.take_next.new.asks
-          (g.W.Wire.state c.args.wire.now) (g.W.Wire.state c.args.wire.now) (g.W.Wire.state c.take_next.new.wire) (same-allowed (g.W.Wire.allows c.args.wire.now)) (went-ready g.E.Evaluates.suits g.E.Evaluates.account (keeps_both g.E.Evaluates.keeps_to g.E.Evaluates.keeps_small) g.E.Evaluates.standing g.E.Evaluates.is_true (told_in c.args.bounds) (g.W.Wire.allows c.args.wire.now) c.args.evaluation.now.state c.prepare.new.evaluation r.0 r.1 c.args.asks.now c.prepare.new.asks (g.W.Wire.state c.args.wire.now) c.requires.suits c.is_lawful.ensures r.2) f.1,
+          (g.W.Wire.state c.args.wire.now) (g.W.Wire.state c.args.wire.now) (g.W.Wire.state c.take_next.new.wire) (allowed_same (g.W.Wire.allows c.args.wire.now)) (went-ready g.E.Evaluates.suits g.E.Evaluates.account (keeps_both g.E.Evaluates.keeps_to g.E.Evaluates.keeps_small) g.E.Evaluates.standing g.E.Evaluates.is_true (told_in c.args.bounds) (g.W.Wire.allows c.args.wire.now) c.args.evaluation.now.state c.prepare.new.evaluation r.0 r.1 c.args.asks.now c.prepare.new.asks (g.W.Wire.state c.args.wire.now) c.requires.suits c.is_lawful.ensures r.2) f.1,
       g.met.T.TakesRows.front_all (r.0 ++ []) _ _ _ _ (g.met.T.TakesRows.takes_then r.0 [] _ _ _ _ _ _ r.3 c.in-Ok-hand_on.ensures.ok),
       inr (g.met.T.TakesRows.takes_then r.0 [] _ _ _ _ _ _ r.3 c.in-Ok-hand_on.ensures.ok),
     )
@@ -78,7 +78,7 @@ returns-in-Ok-take_next-clause-went g c =
       map Asked r.1 ++ f.0,
       r.0 ++ [],
       went-then g.E.Evaluates.suits g.E.Evaluates.account (keeps_both g.E.Evaluates.keeps_to g.E.Evaluates.keeps_small) g.E.Evaluates.standing g.E.Evaluates.is_true (told_in c.args.bounds) (g.W.Wire.allows c.args.wire.now) (g.W.Wire.allows c.args.wire.now) c.args.evaluation.now.state c.prepare.new.evaluation c.take_next.new.evaluation (map Asked r.1) f.0 r.0 [] c.args.asks.now c.prepare.new.asks c.take_next.new.asks
-          (g.W.Wire.state c.args.wire.now) (g.W.Wire.state c.args.wire.now) (g.W.Wire.state c.take_next.new.wire) (same-allowed (g.W.Wire.allows c.args.wire.now)) (went-ready g.E.Evaluates.suits g.E.Evaluates.account (keeps_both g.E.Evaluates.keeps_to g.E.Evaluates.keeps_small) g.E.Evaluates.standing g.E.Evaluates.is_true (told_in c.args.bounds) (g.W.Wire.allows c.args.wire.now) c.args.evaluation.now.state c.prepare.new.evaluation r.0 r.1 c.args.asks.now c.prepare.new.asks (g.W.Wire.state c.args.wire.now) c.requires.suits c.is_lawful.ensures r.2) f.1,
+          (g.W.Wire.state c.args.wire.now) (g.W.Wire.state c.args.wire.now) (g.W.Wire.state c.take_next.new.wire) (allowed_same (g.W.Wire.allows c.args.wire.now)) (went-ready g.E.Evaluates.suits g.E.Evaluates.account (keeps_both g.E.Evaluates.keeps_to g.E.Evaluates.keeps_small) g.E.Evaluates.standing g.E.Evaluates.is_true (told_in c.args.bounds) (g.W.Wire.allows c.args.wire.now) c.args.evaluation.now.state c.prepare.new.evaluation r.0 r.1 c.args.asks.now c.prepare.new.asks (g.W.Wire.state c.args.wire.now) c.requires.suits c.is_lawful.ensures r.2) f.1,
       g.met.T.TakesRows.takes_then r.0 [] _ _ _ _ _ _ r.3 c.in-Ok-hand_on.ensures.ok,
     )
 

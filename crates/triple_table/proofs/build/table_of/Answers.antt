@@ -1,5 +1,7 @@
+-- Sorted and each once, the triples are those that were given.
 use Rattle.std.proofs.Common.{ℕ, ◌^◌, ◌<◌, ◌≤◌, length, List, map, sym, subst, arith}
 use Rattle.std.proofs.lemmas.List.{length-map}
+use Rattle.std.proofs.lemmas.Result.{IfOk-from_err}
 use Rattle.rdf_terms.specs.declared.term.Term.{Term}
 use Rattle.rdf_terms.specs.Triples.{IsDataSet}
 use Rattle.triple_table.specs.declared.ids.IdTriple.{IdTriple}
@@ -37,7 +39,31 @@ table_by_ids-requires-clause-few c = few_ids c.args.terms c.as_slice.result.now
     (subst (λ (ids : List IdTriple). IsRanking (map (triple_at c.args.terms) ids) c.args.terms) (sym c.as_slice.ensures.value)
     (ranking_of (map (triple_at c.args.terms) c.args.triples.items) (map (triple_at c.args.terms) c.distinct_ids-ids.result.items) c.args.terms c.requires.ranking (c.distinct_ids-ids.ensures.members c.args.terms)))
 
+pub table_by_ids-requires-clause-small : goal.table_by_ids-requires-clause-small
+table_by_ids-requires-clause-small c = small_terms c.args.terms c.args.most c.requires.few c.ranges.most.fits
+
+pub returns-in_err-table-clause-members : goal.returns-in_err-table-clause-members
+returns-in_err-table-clause-members c = IfOk-from_err _ _ c.from_residual.ensures.0
+
+pub returns-in_err-table-clause-data_set : goal.returns-in_err-table-clause-data_set
+returns-in_err-table-clause-data_set c = IfOk-from_err _ _ c.from_residual.ensures.0
+
+pub returns-in_err-table-clause-ranking : goal.returns-in_err-table-clause-ranking
+returns-in_err-table-clause-ranking c = IfOk-from_err _ _ c.from_residual.ensures.0
+
+pub returns-in_err-table-clause-few_triples : goal.returns-in_err-table-clause-few_triples
+returns-in_err-table-clause-few_triples c = IfOk-from_err _ _ c.from_residual.ensures.0
+
+pub returns-in_err-table-clause-few_terms : goal.returns-in_err-table-clause-few_terms
+returns-in_err-table-clause-few_terms c = IfOk-from_err _ _ c.from_residual.ensures.0
+
 pub returns-clause-members : goal.returns-clause-members
 returns-clause-members c =
     same_trans _ (map (triple_at c.args.terms) c.as_slice.result.now) (map (triple_at c.args.terms) c.args.triples.items) c.in_ok-table.ensures.members
     (subst (λ (ids : List IdTriple). SameMembers (map (triple_at c.args.terms) ids) (map (triple_at c.args.terms) c.args.triples.items)) (sym c.as_slice.ensures.value) (c.distinct_ids-ids.ensures.members c.args.terms))
+
+pub returns-clause-data_set : goal.returns-clause-data_set
+returns-clause-data_set c = c.in_ok-table.ensures.data_set
+
+pub returns-clause-ranking : goal.returns-clause-ranking
+returns-clause-ranking c = c.in_ok-table.ensures.ranking

@@ -1,7 +1,8 @@
 -- One step more.
 use Rattle.std.proofs.Common.{◌<◌, ◌≤◌, length, drop, ap, arith}
 use Rattle.std.proofs.lemmas.List.{drop_all}
-use Rattle.tpf_client.proofs.Waiting.{same-allowed, allowed-then}
+use Rattle.tpf_base.proofs.SendingLemmas.{allowed_same}
+use Rattle.tpf_client.proofs.Waiting.{allowed-then}
 use Rattle.group_patterns.specs.Asking.{blocks_in}
 use Rattle.group_patterns.proofs.Progressing.{fits-here, first-none, first-more, first-all, step-ends}
 use Rattle.group_patterns.proofs.asking.Asking.ask_all.Goals as goal
@@ -9,7 +10,7 @@ use Rattle.group_patterns.proofs.asking.Asking.ask_all.Goals as goal
 pub loop-step-init : goal.loop-step-init
 loop-step-init g c = record {
   first = first-none (g.W.Wire.allows c.args.wire.now) c.args.calls.now.options.now c.args.calls.now.start.now c.args.calls.now.names.now c.args.steps.now c.args.self.now (g.W.Wire.state c.args.wire.now) c.requires.fresh;
-  allowed = same-allowed (g.W.Wire.allows c.args.wire.now);
+  allowed = allowed_same (g.W.Wire.allows c.args.wire.now);
 }
 
 pub ask_step-requires-clause-fit : goal.ask_step-requires-clause-fit

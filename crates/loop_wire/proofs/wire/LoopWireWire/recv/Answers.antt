@@ -1,4 +1,5 @@
-use Rattle.std.proofs.Common.{◌≡◌, ◌<◌, length, get_or, refl, ap, sym, ◌∙◌}
+-- A receive that is due, and one that its link gives.
+use Rattle.std.proofs.Common.{◌≡◌, ◌<◌, length, get_or, refl, ap, sym, ◌∙◌, arith}
 use Rattle.tpf_base.specs.Failures.{CallCounts}
 use Rattle.loop_wire.specs.Held.{Held, Owing, no_link, settled}
 use Rattle.loop_wire.specs.Standing.{owed_to}
@@ -7,7 +8,11 @@ use Rattle.loop_wire.proofs.Lists.{held_at, is_held_at}
 use Rattle.loop_wire.proofs.Calls.{never_due, receives_due, receives_as}
 use Rattle.loop_wire.proofs.Wires.{open_seen, below_seen, slice_open, slice_below, is_wire_put, held_put_by, held_put, gives_along, served_along, counts_failed, counts_fine, some_room, awake_as, ripe_short}
 use Rattle.loop_wire.proofs.Faults.{due_same, due_unsteady}
+use Rattle.tpf_base.proofs.SendingLemmas.{allowed_same}
 use Rattle.loop_wire.proofs.wire.LoopWireWire.recv.Goals as goal
+
+pub settle-requires : goal.settle-requires
+settle-requires g c = slice_below c.self.inside.links.items _ _ c.deref_mut.ensures.value (below_seen _ _ c.args.link c.self.view_is c.requires.is_open)
 
 pub invariant_of-self : goal.invariant_of-self
 invariant_of-self g c = (
@@ -23,11 +28,24 @@ returns-then-is_next_due-clause-receives g c =
     (counts_failed c.self.inside.failures c.is_next_due.new.self c.fail.new.self _ c.is_next_due.ensures.counts c.fail.ensures.counts c.fail.ensures.later
     (never_due c.self.inside.failures.failing _ _ (sym c.is_next_due.ensures.due ∙ c.if-is_next_due.true))))
 
+pub returns-then-is_next_due-clause-allowed : goal.returns-then-is_next_due-clause-allowed
+returns-then-is_next_due-clause-allowed g c = rw (← c.self.view_is) (allowed_same _)
+
+pub index-requires : goal.index-requires
+index-requires g c = omega (arith, slice_below c.self.inside.links.items _ _ refl (below_seen _ _ c.args.link c.self.view_is c.requires.is_open), c.self.inside.links.ok.0)
+
 pub receive-answer-requires-clause-below : goal.receive-answer-requires-clause-below
 receive-answer-requires-clause-below g c = slice_below c.self.inside.links.items _ _ c.deref_mut-2.ensures.value (below_seen _ _ c.args.link c.self.view_is c.requires.is_open)
 
 pub receive-answer-requires-clause-is_open : goal.receive-answer-requires-clause-is_open
 receive-answer-requires-clause-is_open g c = slice_open c.self.inside.links.items _ _ c.deref_mut-2.ensures.value (open_seen _ _ c.args.link c.self.view_is c.requires.is_open)
+
+pub receive-answer-requires-clause-most : goal.receive-answer-requires-clause-most
+receive-answer-requires-clause-most g c =
+    some_room c.self.inside.failures.failing c.is_next_due.new.self.failing _ _ _ (ap (λ (n : CallCounts). n.failing) c.is_next_due.ensures.counts) c.room-most.ensures.value (c.is_next_due.ensures.some c.if-is_next_due.false _ c.cut.ensures.least)
+
+pub receive-answer-requires-clause-room : goal.receive-answer-requires-clause-room
+receive-answer-requires-clause-room g c = c.requires.room
 
 pub receive-answer-requires-clause-kept : goal.receive-answer-requires-clause-kept
 receive-answer-requires-clause-kept g c = served_along _ _ _ _ _ _ _ c.deref_mut-2.ensures.value c.self.invariant.0
@@ -51,6 +69,5 @@ returns-clause-receives g c =
     (gives_along _ _ c.deref_mut-2.result.now _ owes _ _ _ _ c.deref_mut-2.ensures.value c.receive-answer.ensures.gives)
     (record { moves = λ woken way. (awake_as _ _ _ c.stalls-stalling.ensures.value (sym up ∙ woken), ripe_short owes _ held (held.awake woken) way) }))
 
-pub receive-answer-requires-clause-most : goal.receive-answer-requires-clause-most
-receive-answer-requires-clause-most g c =
-    some_room c.self.inside.failures.failing c.is_next_due.new.self.failing _ _ _ (ap (λ (n : CallCounts). n.failing) c.is_next_due.ensures.counts) c.room-most.ensures.value (c.is_next_due.ensures.some c.if-is_next_due.false _ c.cut.ensures.least)
+pub returns-clause-allowed : goal.returns-clause-allowed
+returns-clause-allowed g c = rw (← c.self.view_is) (allowed_same _)

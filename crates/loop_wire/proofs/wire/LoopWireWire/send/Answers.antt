@@ -1,4 +1,6 @@
-use Rattle.std.proofs.Common.{◌≡◌, ◌<◌, ◌≤◌, true, false, length, take, get_or, refl, ap, sym, ◌∙◌}
+-- A send that is due, and one that its link hears.
+use Rattle.std.proofs.Common.{◌≡◌, ◌<◌, ◌≤◌, true, false, length, take, get_or, refl, ap, sym, ◌∙◌, arith}
+use Rattle.std.proofs.lemmas.List.{length-take-le}
 use Rattle.tpf_base.specs.Failures.{CallCounts}
 use Rattle.loop_wire.specs.Held.{Held, Owing, no_link, settled}
 use Rattle.loop_wire.specs.Standing.{owed_to}
@@ -7,7 +9,11 @@ use Rattle.loop_wire.proofs.Lists.{held_at, is_held_at, owed_lasts}
 use Rattle.loop_wire.proofs.Calls.{never_due, sends_due, sends_as}
 use Rattle.loop_wire.proofs.Wires.{open_seen, below_seen, slice_open, slice_below, is_wire_put, held_put_by, held_put, hears_along, served_along, counts_failed, counts_fine, some_room, few_within, some_within, asleep_as}
 use Rattle.loop_wire.proofs.Faults.{due_same, due_unsteady}
+use Rattle.tpf_base.proofs.SendingLemmas.{allowed_same}
 use Rattle.loop_wire.proofs.wire.LoopWireWire.send.Goals as goal
+
+pub settle-requires : goal.settle-requires
+settle-requires g c = slice_below c.self.inside.links.items _ _ c.deref_mut.ensures.value (below_seen _ _ c.args.link c.self.view_is c.requires.is_open)
 
 pub invariant_of-self : goal.invariant_of-self
 invariant_of-self g c = (
@@ -22,6 +28,15 @@ returns-then-is_next_due-clause-sends g c =
     (held_put_by settled _ _ c.deref_mut.result.now _ _ c.deref_mut.ensures.value c.settle.auto.links c.deref_mut.ensures.len c.settle.ensures.held)
     (counts_failed c.self.inside.failures c.is_next_due.new.self c.fail.new.self _ c.is_next_due.ensures.counts c.fail.ensures.counts c.fail.ensures.later
     (never_due c.self.inside.failures.failing _ _ (sym c.is_next_due.ensures.due ∙ c.if-is_next_due.true))))
+
+pub returns-then-is_next_due-clause-allowed : goal.returns-then-is_next_due-clause-allowed
+returns-then-is_next_due-clause-allowed g c = rw (← c.self.view_is) (allowed_same _)
+
+pub index-requires : goal.index-requires
+index-requires g c = omega (arith, slice_below c.self.inside.links.items _ _ refl (below_seen _ _ c.args.link c.self.view_is c.requires.is_open), c.self.inside.links.ok.0)
+
+pub slice_bounds-send-end : goal.slice_bounds-send-end
+slice_bounds-send-end g c = sym (length-take-le _ _ (few_within _ _ _ _ c.room-n.ensures.within c.min-most.ensures))
 
 pub send-answer-requires-clause-below : goal.send-answer-requires-clause-below
 send-answer-requires-clause-below g c = slice_below c.self.inside.links.items _ _ c.deref_mut-2.ensures.value (below_seen _ _ c.args.link c.self.view_is c.requires.is_open)
@@ -53,3 +68,6 @@ returns-clause-sends g c =
     (counts_fine c.self.inside.failures c.is_next_due.new.self _ c.is_next_due.ensures.counts) c.is_woke_after-self-inside.ensures
     (is_held_at _ _ _ _ _ _ _ c.self.invariant.0 below) (hears_along _ _ c.deref_mut-2.result.now _ _ (take c.room-n.result c.args.piece.now) _ _ c.deref_mut-2.ensures.value refl c.send-answer.ensures.hears)
     longer.1 some few asleep)
+
+pub returns-clause-allowed : goal.returns-clause-allowed
+returns-clause-allowed g c = rw (← c.self.view_is) (allowed_same _)
